@@ -1,12 +1,14 @@
 -- The look-ups in 002's rows: the laws of any list of rows, at the table.
 -- Assumes nothing.
-use mathlib.Core.Path.{_≡_, sym}
-use mathlib.Core.Option.{none, some}
+use mathlib.Core.Path.{_≡_, refl, sym, ap}
+use mathlib.Core.Option.{none, some, Option·some-injective, Option·none-ne-some, Option·some-ne-none}
 use Prim.Native.Nat.{ℕ, _≤_, _<_}
 use native.Mathlib.Omega.{arith}
 use Rattle.rows.specs.Rows.{table, rowCount, rowAt}
 use Rattle.rows.proofs.Table.{size, table-ruled}
-use Rattle.dictionary.specs.Dictionary.{widthOf, numberOf}
+use Rattle.dictionary.specs.declared.Found.{Found}
+use Rattle.dictionary.specs.declared.Found.the-variants.{At, Nothing}
+use Rattle.dictionary.specs.Dictionary.{widthOf, numberOf, foundRow}
 use Rattle.dictionary.proofs.Lookup.{Has, Lacks, looked, at-found, at-none, none-found}
 use Rattle.dictionary.proofs.Rule.{rising, widths, once, found, width-most-in, width-none-in}
 
@@ -48,3 +50,11 @@ number-some s i e = let f = at-found (looked table s) (sym e) in (omega (arith, 
 pub number-none : (s : ℕ) → none ≡ numberOf s → Lacks table s rowCount × (widthOf s ≡ 0)
 unfolding numberOf widthOf
 number-none s e = let f = at-none (looked table s) (sym e) in (λ k h. f .0 k (omega (arith, size)), f .1)
+
+-- two answers that say the same are the same
+pub found-one : (a b : Found) → foundRow a ≡ foundRow b → a ≡ b
+unfolding foundRow
+found-one (At i) (At j) e = ap At (Option·some-injective i j e)
+found-one (At i) Nothing e = absurd (Option·some-ne-none i e)
+found-one Nothing (At j) e = absurd (Option·none-ne-some j e)
+found-one Nothing Nothing e = refl

@@ -1,5 +1,5 @@
 // The dictionary: where an SPN stands in it, and how wide its parameter is (01, "A set and its judgement"). Any SPN may be asked. The
-// rule of the rows, proved once over all of them, and the laws of a look-up stand in proofs/.
+// rows and the test of their rule are the crate rows'; what the rule gives at each row, and the laws of a look-up, stand in proofs/.
 ghost use mathlib.Core.Path.{_≡_};
 ghost use Rattle.dictionary.specs.Dictionary.{foundRow, numberOf, widthOf};
 

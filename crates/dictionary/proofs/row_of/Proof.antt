@@ -3,7 +3,7 @@
 use Prim.Native.Nat.{ℕ, _≤_, _<_, _-_}
 use mathlib.Core.Path.{_≡_, sym, ap, _∙_}
 use native.Mathlib.Omega.{arith}
-use borrow.Author.Count.{below-none, below-more}
+use borrow.Author.Count.{below-more}
 use Rattle.rows.specs.declared.Row.{Row}
 use Rattle.rows.specs.Rows.{rowAt, rowCount}
 use Rattle.dictionary.specs.Dictionary.{foundRow}
@@ -18,12 +18,12 @@ abbrev μ-loop : tie.MeasureT-loop
 μ-loop spn i₀ i = rowCount - i
 
 loop-holds : tie.Need-loop-holds Inv-loop μ-loop
-loop-holds c = (omega arith, below-none _)
+loop-holds c = (omega arith, λ k l. absurd (omega arith))
 
 returns : tie.Need-returns Inv-loop μ-loop
 unfolding foundRow
 returns c =
-    number-here _ _ (c .before .before .before .loop-test .taken)
+    number-here _ (c .before .before .before .before .loop .i) (omega arith)
     (sym (ap (λ (r : Row). r .spn) (c .before .before .row-at .ensures)) ∙ c .if1 .taken)
 
 loop-again : tie.Need-loop-again Inv-loop μ-loop
