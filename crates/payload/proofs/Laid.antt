@@ -1,12 +1,12 @@
 -- Laws of bits that are laid at places. Assumes nothing.
-use mathlib.Core.Path.{_≡_, refl, sym, ap, ap₂, _∙_, subst}
-use Prim.Native.Nat.{ℕ, zero, suc, _+_, _≤_, _<_}
+use mathlib.Core.Path.{_≡_, refl, ap}
+use Prim.Native.Nat.{ℕ, zero, suc, _+_, _<_}
 use native.Mathlib.Nat.{not-suc-le-zero, add-zero, add-suc}
 use native.Mathlib.Decide.{ℕ-discrete}
 use native.Mathlib.Omega.{arith}
 use borrow.Author.Tests.{eq-eqb, ne-eqb}
 use lib.Dec.{eqb}
-use mathlib.Core.Bool.{cond, _||_, or-true, or-false}
+use mathlib.Core.Bool.{cond, or-true, or-false}
 use Rattle.payload.specs.Bits.{laid, any}
 
 -- where no bit is laid, nothing changes

@@ -4,7 +4,7 @@ use mathlib.Core.Path.{_≡_, refl, sym, ap, _∙_}
 use mathlib.Core.Bool.{Bool, true, false, cond, _||_}
 use mathlib.Core.List.{List, _++_}
 use mathlib.Core.Logic.{⊎-elim}
-use Prim.Native.Nat.{ℕ, zero, suc, _+_, _*_, _/_, _%_, _^_, _≤_, _<_}
+use Prim.Native.Nat.{ℕ, zero, suc, _+_, _*_, _/_, _%_, _≤_, _<_}
 use native.Mathlib.Nat.{not-suc-le-zero, le-of-suc-le-suc, eq-or-lt-of-le, mod-eq-of-lt, le-refl}
 use native.Mathlib.Numerals.{add-one}
 use native.Mathlib.Omega.{arith}
@@ -12,7 +12,7 @@ use borrow.Author.Tests.{eqb-false}
 use lib.Dec.{eqb}
 use lib.ListN.{length, getD, drop}
 use lib.Seq.{ext-getD}
-use Rattle.payload.specs.Bits.{bitOf, bitAt, fromBits, tabulate, bytesOf, laid, any}
+use Rattle.payload.specs.Bits.{bitOf, bitAt, fromBits, tabulate, laid, any}
 use Rattle.payload.specs.Place.{placeIn, assignedTo, assigned, sizeOf}
 use Rattle.payload.specs.Payload.{laidAll, packed, readNumber, readAll, filled, Apart, Fit}
 use Rattle.payload.proofs.Below.{neither, any-each}
@@ -100,10 +100,11 @@ module _ (ss ws payload : List ℕ) where
   read-length = length-tabulate _ (length ss)
 
 -- ---- what `put_all`, `pack_into` and `read_into` rest on
-pub laid-next : (ss ws vs : List ℕ) (i p b : ℕ)
-    → laid (placeIn ss ws i) (bitOf (getD vs i 0)) (getD ws i 0) p (laidAll ss ws vs i p b) ≡ laidAll ss ws vs (i + 1) p b
+-- a turn of `put_all` at payload bit p: b at the start, x before the turn, y after it
+pub laid-turn : (ss ws vs : List ℕ) (i p b x y : ℕ) → x ≡ laidAll ss ws vs i p b
+    → y ≡ laid (placeIn ss ws i) (bitOf (getD vs i 0)) (getD ws i 0) p x → y ≡ laidAll ss ws vs (i + 1) p b
 unfolding laidAll
-laid-next ss ws vs i p b = rw add-one
+laid-turn ss ws vs i p b x y e f = rw (add-one, ← e) f
 
 -- all bits of 255 are 1
 all-ones : (n p : ℕ) → p < 8 * n → bitAt (tabulate (λ k. 255) n) p ≡ 1

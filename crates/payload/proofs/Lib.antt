@@ -7,3 +7,4 @@ pub mod Place
 pub mod Previous
 pub mod Laws
 pub mod Placed
+pub mod Told

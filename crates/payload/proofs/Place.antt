@@ -6,13 +6,13 @@ use mathlib.Core.Logic.{⊎-elim}
 use Prim.Native.Nat.{ℕ, zero, suc, _+_, _*_, _≤_, _<_, max}
 use native.Mathlib.Nat.{not-suc-le-zero, le-of-suc-le-suc, eq-or-lt-of-le}
 use native.Mathlib.Numerals.{add-one}
-use native.Mathlib.Decide.{decLt, ℕ-discrete}
+use native.Mathlib.Decide.{decLt}
 use native.Mathlib.Omega.{arith}
 use lib.ListN.{length, getD}
 use Rattle.payload.specs.Bits.{bitOf, laid, meet, runAt}
-use Rattle.payload.specs.Place.{place, endOf, sharesBit, placeIn, endIn, endTo, bytesFor, sizeOf}
+use Rattle.payload.specs.Place.{place, endOf, sharesBit, sharesEarlier, placeIn, endIn, endTo, bytesFor, sizeOf}
 use Rattle.payload.specs.Payload.{readNumber, Apart}
-use Rattle.payload.proofs.Below.{meet-each}
+use Rattle.payload.proofs.Below.{any-each, meet-each}
 
 -- ---- what the laws of payloads rest on
 place-one : (s w j k : ℕ) → j < w → k < w → place s w j ≡ place s w k → j ≡ k
@@ -61,7 +61,7 @@ module _ (ss ws : List ℕ) where
   unfolding sizeOf bytesFor
   end-in = omega arith
 
-  -- a map of which no two parameters share a bit
+  -- a map of which no two parameters share a bit is one that the laws of payloads hold of
   pub apart : ((i j : ℕ) → i < j → j < length ss → sharesBit (getD ss i 0) (getD ws i 0) (getD ss j 0) (getD ws j 0) ≡ false) → Apart ss ws
   apart h = record { once = once; inside = inside }
     where
@@ -84,3 +84,7 @@ module _ (ss ws : List ℕ) where
         where
           same : i ≡ j → (i ≡ j) × (k ≡ l)
           same q = (q, place-one (getD ss i 0) (getD ws i 0) k l hk (rw q hl) (e ∙ ap (λ (x : ℕ). placeIn ss ws x l) (sym q)))
+
+  pub apart-earlier : ((i : ℕ) → i < length ss → sharesEarlier (λ k. getD ss k 0) (λ k. getD ws k 0) i ≡ false) → Apart ss ws
+  unfolding sharesEarlier
+  apart-earlier h = apart (λ i j l m. any-each _ j (h j m) i l)

@@ -1,7 +1,7 @@
 -- Where starts rise, a parameter that shares a bit with an earlier one and is the first to do so shares a bit with the one just
 -- before it. So a loop that compares each position with the previous one alone finds 01's judgement 6. This rests on a parameter
 -- being one run. Assumes nothing.
-use mathlib.Core.Path.{_≡_, refl, sym, ap, _∙_}
+use mathlib.Core.Path.{_≡_, refl, sym, _∙_}
 use mathlib.Core.Bool.{Bool, true, false, _&&_}
 use Prim.Native.Nat.{ℕ, zero, suc, _+_, _-_, _≤_, _<_}
 use native.Mathlib.Nat.{add-zero, add-suc}
@@ -10,7 +10,7 @@ use native.Mathlib.Decide.{decLt, ℕ-discrete}
 use native.Mathlib.Omega.{arith}
 use borrow.Author.Tests.{lt-ltb, le-ltb, ltb-false}
 use lib.Dec.{ltb}
-use Rattle.payload.specs.Bits.{any, meet, lowest}
+use Rattle.payload.specs.Bits.{any, lowest}
 use Rattle.payload.specs.Place.{endOf, sharesBit, sharesEarlier}
 use Rattle.payload.proofs.Below.{any-at, any-none, any-each, lowest-same}
 use Rattle.payload.proofs.Run.{runs-meet}

@@ -1,11 +1,11 @@
 -- Runs of payload bits: what a turn of `put_run` and of `get_run` adds, and when two runs have a bit in common. Assumes nothing.
-use mathlib.Core.Path.{_≡_, refl, sym, ap, _∙_}
+use mathlib.Core.Path.{_≡_, sym, ap, _∙_}
 use mathlib.Core.List.{List}
-use Prim.Native.Nat.{ℕ, zero, suc, _+_, _-_, _*_, _/_, _%_, _^_, _≤_, _<_}
+use Prim.Native.Nat.{ℕ, _+_, _-_, _*_, _/_, _%_, _^_, _≤_, _<_}
 use native.Mathlib.Nat.{mod-eq-of-lt, lt-of-lt-of-le}
 use native.Mathlib.Omega.{arith}
 use lib.Pow.{pow-mono}
-use lib.ListN.{length, getD}
+use lib.ListN.{getD}
 use lib.Dec.{eqb, ltb}
 use mathlib.Core.Bool.{false, _&&_}
 use native.Mathlib.Decide.{decLt}
@@ -16,13 +16,18 @@ use Rattle.payload.proofs.Bits.{bitAt-lt, at-bit, bit-shr, from-lt, fro
 use Rattle.payload.proofs.Laid.{laid-add, laid-same}
 
 -- ---- what a turn of `put` and of `get` adds: n bits in the byte of payload bit s + d
-pub put-more : (s v d n p b : ℕ)
+put-more : (s v d n p b : ℕ)
     → laid (λ i. s + i) (bitOf v) (d + n) p b ≡ laid (λ i. s + d + i) (bitOf (v / 2 ^ d)) n p (laid (λ i. s + i) (bitOf v) d p b)
 put-more s v d n p b =
     laid-add (λ i. s + i) (bitOf v) d n p b
     ∙ laid-same _ _ (λ i. s + d + i) (bitOf (v / 2 ^ d)) n p p _ (λ i m. ap (eqb p) (omega arith)) (λ i m e. sym (bit-shr v d i))
 
-pub get-more : (xs : List ℕ) (s d n : ℕ) → (s + d) % 8 + n ≤ 8
+-- a turn of `put_run` at payload bit p: b at the start, x before the turn, y after it
+pub put-turn : (s v d n p b x y : ℕ) → x ≡ laid (λ i. s + i) (bitOf v) d p b
+    → y ≡ laid (λ i. s + d + i) (bitOf (v / 2 ^ d)) n p x → y ≡ laid (λ i. s + i) (bitOf v) (d + n) p b
+put-turn s v d n p b x y e f = rw (put-more s v d n p b, ← e) f
+
+get-more : (xs : List ℕ) (s d n : ℕ) → (s + d) % 8 + n ≤ 8
     → runAt xs s (d + n) ≡ getD xs ((s + d) / 8) 0 / 2 ^ ((s + d) % 8) % 2 ^ n * 2 ^ d + runAt xs s d
 unfolding runAt
 get-more xs s d n h =
@@ -36,7 +41,7 @@ get-more xs s d n h =
         at-bit xs (s + (d + j)) ((s + d) / 8) ((s + d) % 8 + j) (omega arith) (omega arith)
         ∙ sym (bit-shr (getD xs ((s + d) / 8) 0) ((s + d) % 8) j)
 
-pub read-lt : (xs : List ℕ) (s d : ℕ) → runAt xs s d < 2 ^ d
+read-lt : (xs : List ℕ) (s d : ℕ) → runAt xs s d < 2 ^ d
 unfolding runAt
 read-lt xs s d = from-lt _ (λ i. bitAt-lt xs _) d
 

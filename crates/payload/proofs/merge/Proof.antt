@@ -1,17 +1,15 @@
 -- `merge`: its shifts and masks are quotients and remainders, whose bits `merged-bit` knows. Assumes nothing.
-use mathlib.Core.Path.{_≡_, sym, ap, ap₂, _∙_}
+use mathlib.Core.Path.{_≡_, ap, _∙_}
 use Prim.Native.Nat.{ℕ, _+_, _-_, _*_, _/_, _%_, _^_, _≤_, _<_}
 use native.Mathlib.Nat.{mod-eq-of-lt}
 use native.Mathlib.Omega.{arith}
 use lib.Bits.{bitAnd}
 use lib.Pow.{pow-pos}
 use borrow.Author.Needs.{needs}
-use Rattle.payload.specs.Bits.{bitOf, laid}
+use Rattle.payload.specs.Bits.{bitOf}
 use Rattle.payload.proofs.Replace.{one-shl, mask-low, under, merged-lt, merged-bit}
 use Rattle.payload.proofs.merge.Statement.{statement}
 use Rattle.payload.proofs.merge.Tie as tie
-use Rattle.payload.proofs.merge.Reads as reads
-use Rattle.payload.proofs.merge.Lts as lts
 
 -- what each of the three locals holds
 module _ (old off n v : ℕ) (h : off + n ≤ 8) (l : old < 256) where
@@ -31,32 +29,11 @@ module _ (old off n v : ℕ) (h : off + n ≤ 8) (l : old < 256) where
   sum-lt : (old / 2 ^ (off + n) * 2 ^ (off + n)) % 2 ^ 32 + ((bitAnd v ((1 * 2 ^ n) % 2 ^ 32 - 1) * 2 ^ off) % 2 ^ 32 + bitAnd old ((1 * 2 ^ off) % 2 ^ 32 - 1)) < 256
   sum-lt = rw sum-is (merged-lt old off n v h l)
 
-shl-low : tie.Need-shl-low
-shl-low c = search needs
-
 sub-low : tie.Need-sub-low
 sub-low c = rw (one-shl (c .args .off) (omega arith)) (pow-pos (c .args .off))
 
-shl-mid : tie.Need-shl-mid
-shl-mid c = search needs
-
 sub-mid : tie.Need-sub-mid
 sub-mid c = rw (one-shl (c .args .n) (omega arith)) (pow-pos (c .args .n))
-
-shl-mid-2 : tie.Need-shl-mid-2
-shl-mid-2 c = search needs
-
-add-high : tie.Need-add-high
-add-high c = search needs
-
-shr-high : tie.Need-shr-high
-shr-high c = search needs
-
-add-high-2 : tie.Need-add-high-2
-add-high-2 c = search needs
-
-shl-high : tie.Need-shl-high
-shl-high c = search needs
 
 add-result : tie.Need-add-result
 add-result c = let a = c .args in omega (arith, sum-lt (a .old) (a .off) (a .n) (a .value) (c .pre .0) (c .pre .1))
@@ -74,16 +51,4 @@ returns c =
 pub merge-spec : {M : Type 1} → statement M
 merge-spec =
     tie.close
-    (tie.spec
-    shl-low
-    sub-low
-    shl-mid
-    sub-mid
-    shl-mid-2
-    add-high
-    shr-high
-    add-high-2
-    shl-high
-    add-result
-    add-result-2
-    returns)
+    (tie.spec (λ c. search needs) sub-low (λ c. search needs) sub-mid (λ c. search needs) (λ c. search needs) (λ c. search needs) (λ c. search needs) (λ c. search needs) add-result add-result-2 returns)

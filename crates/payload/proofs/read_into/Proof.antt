@@ -1,10 +1,10 @@
 -- `read_into`. Assumes nothing.
-use mathlib.Core.Path.{_≡_, refl, sym, ap, _∙_}
+use mathlib.Core.Path.{_≡_, refl, _∙_}
 use mathlib.Core.List.{_++_}
-use Prim.Native.Nat.{ℕ, suc, _+_, _-_, _*_, _/_, _^_, _≤_, _<_}
+use Prim.Native.Nat.{_-_, _≤_}
 use native.Mathlib.Omega.{arith}
 use denote.Ref.{now}
-use lib.ListN.{length, getD, drop, set, length-set}
+use lib.ListN.{length, drop, length-set}
 use borrow.Author.Needs.{needs}
 use Rattle.payload.specs.Bits.{tabulate}
 use Rattle.payload.proofs.Placed.{placed-widths, placed-in}
@@ -12,9 +12,6 @@ use Rattle.payload.proofs.Bits.{write-more}
 use Rattle.payload.proofs.Laws.{readAt, read-end}
 use Rattle.payload.proofs.read_into.Statement.{statement}
 use Rattle.payload.proofs.read_into.Tie as tie
-use Rattle.payload.proofs.read_into.Reads as reads
-use Rattle.payload.proofs.read_into.Lts as lts
-use Rattle.payload.proofs.get.Reads as get-reads
 
 abbrev Inv-loop : tie.InvT-loop
 Inv-loop starts widths payload room₀ i₀ room i =
@@ -24,51 +21,16 @@ Inv-loop starts widths payload room₀ i₀ room i =
 abbrev μ-loop : tie.MeasureT-loop
 μ-loop starts widths payload room₀ i₀ room i = length starts - i
 
--- src/lib.rt:271:5
 loop-holds : tie.Need-loop-holds Inv-loop μ-loop
 unfolding tabulate
 loop-holds c = (search needs, let a = c .before .before .before .before in placed-widths (now (a .args .starts)) (now (a .args .widths)) (a .pre .0), refl, refl)
 
--- src/lib.rt:272:35
-mul-get : tie.Need-mul-get Inv-loop μ-loop
-mul-get c = search needs
-
--- src/lib.rt:272:35
-shared-slice-read-get : tie.Need-shared-slice-read-get Inv-loop μ-loop
-shared-slice-read-get c = search needs
-
--- src/lib.rt:272:46
-mul-get-2 : tie.Need-mul-get-2 Inv-loop μ-loop
-mul-get-2 c = search needs
-
--- src/lib.rt:272:46
-shared-slice-read-get-2 : tie.Need-shared-slice-read-get-2 Inv-loop μ-loop
-shared-slice-read-get-2 c = search needs
-
--- src/lib.rt:272:22
 get-requires : tie.Need-get-requires Inv-loop μ-loop
 get-requires c κs =
     let l = c .before .before .before in
     let s = l .before .before .before .before .before in
     omega (arith, placed-in (now (s .args .starts)) (now (s .args .widths)) (s .pre .0) (l .loop .i) (omega arith), s .pre .2)
 
--- src/lib.rt:272:9
-mul-room : tie.Need-mul-room Inv-loop μ-loop
-mul-room c = search needs
-
--- src/lib.rt:272:9
-slice-write-room : tie.Need-slice-write-room Inv-loop μ-loop
-slice-write-room c = search needs
-
--- src/lib.rt:273:9
-add-i : tie.Need-add-i Inv-loop μ-loop
-add-i c = search needs
-
--- src/lib.rt:271:5
-loop-less : tie.Need-loop-less Inv-loop μ-loop
-loop-less c = search needs
-
--- src/lib.rt:271:5
 loop-again : tie.Need-loop-again Inv-loop μ-loop
 loop-again c = (
   search needs,
@@ -79,11 +41,6 @@ loop-again c = (
       rw (l .loop .inv .3, c .get .ensures) (write-more (readAt (now (a .starts)) (now (a .widths)) (now (a .payload))) (l .loop .i) (now (a .room)) (omega arith)),
 )
 
--- src/lib.rt:263:1
-same-length : tie.Need-same-length Inv-loop μ-loop
-same-length c = search needs
-
--- src/lib.rt:263:1
 returns : tie.Need-returns Inv-loop μ-loop
 returns c =
     let a = c .before .before .before .before .before .before in
@@ -93,19 +50,4 @@ returns c =
 pub read-into-spec : {M : Type 1} → statement M
 read-into-spec =
     tie.close
-    (tie.spec
-    Inv-loop
-    μ-loop
-    loop-holds
-    mul-get
-    shared-slice-read-get
-    mul-get-2
-    shared-slice-read-get-2
-    get-requires
-    mul-room
-    slice-write-room
-    add-i
-    loop-less
-    loop-again
-    same-length
-    returns)
+    (tie.spec Inv-loop μ-loop loop-holds (λ c. search needs) (λ c. search needs) (λ c. search needs) (λ c. search needs) get-requires (λ c. search needs) (λ c. search needs) (λ c. search needs) (λ c. search needs) loop-again (λ c. search needs) returns)
