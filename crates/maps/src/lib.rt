@@ -1,0 +1,1 @@
+// Maps and their judgement (01, "A set and its judgement").
