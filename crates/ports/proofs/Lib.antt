@@ -1,2 +1,4 @@
 pub mod Numbers
 pub mod Calls
+pub mod Lists
+pub mod Commands

@@ -1,8 +1,9 @@
 -- Where the pairs stand in the words that the caller lends: 12 rows of 34 words, a row for each pair. A row's words: 0 the mode, 1 how many
 -- PGNs are listed, 2 + k the PGN at place k. Total on any words: any mode but 0 is mode 1, a count above 32 is 32. Assumes nothing.
+use mathlib.Core.Path.{_≡_}
 use mathlib.Core.Bool.{Bool, true, false, _&&_, not, cond}
 use mathlib.Core.List.{List}
-use Prim.Native.Nat.{ℕ, _+_, _*_, _-_}
+use Prim.Native.Nat.{ℕ, _+_, _*_, _-_, _<_}
 use lib.Dec.{eqb, ltb, leb}
 use lib.ListN.{getD, set, replicate}
 use Rattle.words.specs.First.{first}
@@ -41,6 +42,10 @@ rewritten r (SetMode m) = cond (eqb m (modeIn r)) r (set r 0 m)
 -- a refusal leaves the row
 unfoldable pub rowAfter : List ℕ → Command → List ℕ
 rowAfter r c = cond (eqb (numberOf (pairIn r) c) 0) (rewritten r c) r
+
+-- no PGN is listed twice
+unfoldable pub Once : List ℕ → Type 0
+Once r = (j k : ℕ) → j < countIn r → k < countIn r → getD r (2 + j) 0 ≡ getD r (2 + k) 0 → j ≡ k
 
 -- an answer's number and a row
 pub record Noted : Type 0 where

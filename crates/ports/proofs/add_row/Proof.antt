@@ -4,76 +4,19 @@ use borrow.Author.Tests.{le-leb, le-ltb, lt-leb, lt-ltb}
 use borrow.Author.Needs.{needs}
 use Rattle.ports.proofs.add_row.Statement.{statement}
 use Rattle.ports.proofs.add_row.Tie as tie
-use Rattle.ports.proofs.add_row.Reads as reads
-use Rattle.ports.proofs.add_row.Lts as lts
-use Rattle.ports.proofs.count_of.Reads as count-of-reads
-use Rattle.ports.proofs.ill_formed.Reads as ill-formed-reads
-use Rattle.ports.proofs.place_of.Reads as place-of-reads
 
--- src/lib.rt:82:8
-ill-formed-requires : tie.Need-ill-formed-requires
-ill-formed-requires c κs = search needs
-
--- src/lib.rt:83:9
 returns : tie.Need-returns
 unfolding numberOf rewritten rowAfter
 returns c = simp (← c .before .ill-formed .ensures, c .if1 .taken)
 
--- src/lib.rt:85:9
-count-of-requires : tie.Need-count-of-requires
-count-of-requires c κs = search needs
-
--- src/lib.rt:86:8
-place-of-requires : tie.Need-place-of-requires
-place-of-requires c κs = search needs
-
--- src/lib.rt:87:9
-same-length : tie.Need-same-length
-same-length c = search needs
-
--- src/lib.rt:87:9
 returns-2 : tie.Need-returns-2
 unfolding numberOf rewritten rowAfter
 returns-2 c = simp (← c .before .before .before .before .before .before .ill-formed .ensures, c .before .before .before .before .before .if1 .left, ← c .before .before .before .count-of .ensures .0, ← c .before .place-of .ensures, lt-ltb _ _ (c .if2 .taken))
 
--- src/lib.rt:90:13
-add-row : tie.Need-add-row
-add-row c = search needs
-
--- src/lib.rt:90:9
-mul-row : tie.Need-mul-row
-mul-row c = search needs
-
--- src/lib.rt:90:9
-slice-write-row : tie.Need-slice-write-row
-slice-write-row c = search needs
-
--- src/lib.rt:91:18
-cast-row : tie.Need-cast-row
-cast-row c = search needs
-
--- src/lib.rt:91:18
-add-row-2 : tie.Need-add-row-2
-add-row-2 c = search needs
-
--- src/lib.rt:91:9
-slice-write-row-2 : tie.Need-slice-write-row-2
-slice-write-row-2 c = search needs
-
--- src/lib.rt:92:9
-same-length-2 : tie.Need-same-length-2
-same-length-2 c = search needs
-
--- src/lib.rt:92:9
 returns-3 : tie.Need-returns-3
 unfolding numberOf rewritten rowAfter
 returns-3 c = simp (← c .before .before .before .before .before .before .before .ill-formed .ensures, c .before .before .before .before .before .before .if1 .left, ← c .before .before .before .before .count-of .ensures .0, ← c .before .before .place-of .ensures, le-ltb _ _ (c .before .if2 .left), lt-ltb _ _ (c .if3 .taken))
 
--- src/lib.rt:78:1
-same-length-3 : tie.Need-same-length-3
-same-length-3 c = search needs
-
--- src/lib.rt:78:1
 returns-4 : tie.Need-returns-4
 unfolding numberOf rewritten rowAfter
 returns-4 c = simp (← c .before .before .before .before .before .before .before .ill-formed .ensures, c .before .before .before .before .before .before .if1 .left, ← c .before .before .before .before .count-of .ensures .0, ← c .before .before .place-of .ensures, le-ltb _ _ (c .before .if2 .left), le-ltb _ _ (c .if3 .left))
@@ -81,20 +24,4 @@ returns-4 c = simp (← c .before .before .before .before .before .before .befor
 pub add-row-spec : {M : Type 1} → statement M
 add-row-spec =
     tie.close
-    (tie.spec
-    ill-formed-requires
-    returns
-    count-of-requires
-    place-of-requires
-    same-length
-    returns-2
-    add-row
-    mul-row
-    slice-write-row
-    cast-row
-    add-row-2
-    slice-write-row-2
-    same-length-2
-    returns-3
-    same-length-3
-    returns-4)
+    (tie.spec (λ c κs. search needs) returns (λ c κs. search needs) (λ c κs. search needs) (λ c. search needs) returns-2 (λ c. search needs) (λ c. search needs) (λ c. search needs) (λ c. search needs) (λ c. search needs) (λ c. search needs) (λ c. search needs) returns-3 (λ c. search needs) returns-4)

@@ -1,16 +1,14 @@
 use borrow.Author.Tests.{eq-eqb, ne-eqb}
 use Rattle.ports.proofs.passing.Statement.{statement}
 use Rattle.ports.proofs.passing.Tie as tie
-use Rattle.ports.proofs.passing.Reads as reads
-use Rattle.ports.proofs.passing.Lts as lts
 
--- src/lib.rt:35:1
 returns : tie.Need-returns
 returns c = simp (eq-eqb _ _ (c .if1 .taken))
 
--- src/lib.rt:35:1
 returns-2 : tie.Need-returns-2
 returns-2 c = simp (ne-eqb _ _ (c .if1 .left))
 
 pub passing-spec : {M : Type 1} → statement M
-passing-spec = tie.close (tie.spec returns returns-2)
+passing-spec =
+    tie.close
+    (tie.spec returns returns-2)
