@@ -12,7 +12,7 @@ use Rattle.frame.specs.Frame.{fieldsOf, pgnOf}
 use Rattle.frame.specs.declared.Fields.{Fields}
 use Rattle.ports.specs.declared.Command.{Command}
 use Rattle.ports.specs.Pairs.{decidedBy}
-use Rattle.ports.specs.Filters.{width, Noted, noted, rowObeys, rowPasses, obeysAt, twoPorts, pairOf, freshWords, commanded, decided}
+use Rattle.ports.specs.Filters.{Noted, noted, rowObeys, rowPasses, obeysAt, pairOf, freshWords, commanded, decided}
 use Rattle.ports.proofs.Numbers.{by-number}
 
 -- row i is lent as a part, and comes back

@@ -1,26 +1,26 @@
 -- After ANY run of calls on fresh filters, with any numbers, refused ones and decisions too, each call is answered as the calls that name its
 -- pair, in their order, have it answered by a fresh pair; calls that name other pairs do not count. Assumes nothing.
 use mathlib.Core.Path.{_≡_, refl, sym, ap, _∙_}
-use mathlib.Core.Bool.{Bool, true, false, _&&_, cond, and-eq-true-iff, true≢false}
+use mathlib.Core.Bool.{true, false, cond, and-eq-true-iff, true≢false}
 use mathlib.Core.List.{List, [], _∷_}
 use Prim.Native.Nat.{ℕ, zero, suc, _+_, _*_, _<_, _≤_}
 use native.Mathlib.Decide.{ℕ-discrete}
 use native.Mathlib.Omega.{arith}
-use borrow.Author.Tests.{eqb-true, eqb-false, eq-eqb, le-ltb}
+use borrow.Author.Tests.{ltb-true, eqb-true, eq-eqb, ne-eqb, le-ltb}
 use lib.Dec.{eqb}
 use lib.ListN.{length, getD, replicate, length-replicate}
 use Rattle.words.specs.Rows.{rowAt, putAt}
 use Rattle.words.specs.Runs.{only, fold, Keyed}
-use Rattle.words.proofs.Rows.{length-rowAt, rowAt-getD, length-putAt, rowAt-putAt, rowAt-putAt-other}
+use Rattle.words.proofs.Rows.{length-rowAt, rowAt-getD, length-putAt, rowAt-putAt, rowAt-putAt-other, putAt-same}
 use Rattle.words.proofs.Runs.{own-events, kept-all}
-use Rattle.answers.specs.Answers.{Said, plain}
+use Rattle.answers.specs.Answers.{plain}
 use Rattle.ports.specs.declared.Command.{Command}
-use Rattle.ports.specs.Pairs.{room, Pair, freshPair}
-use Rattle.ports.specs.Filters.{width, modeIn, countIn, placeIn, listedIn, pairIn, rowAfter, Once, twoPorts, pairOf, freshWords, pairAt, commanded, decided}
+use Rattle.ports.specs.Pairs.{room, Pair, Counted, freshPair, numberOf}
+use Rattle.ports.specs.Filters.{modeIn, countIn, placeIn, listedIn, pairIn, rowAfter, Once, twoPorts, pairOf, freshWords, rowOf, pairAt, commanded, decided}
 use Rattle.ports.specs.Calls.{Ask, Order, Decide, Call, calledBy, called, wordsAfter, answerOf, asked, names, pairAfter}
 use Rattle.ports.proofs.Numbers.{number-fits, number-own}
 use Rattle.ports.proofs.Calls.{all-fresh}
-use Rattle.ports.proofs.Lists.{test, Tidy, same-pair, count-most, count-is, row-steps}
+use Rattle.ports.proofs.Lists.{test, same-pair, count-most, count-is, place-holds, listed-at, row-long, Tidy, row-steps}
 
 -- ---- the words of every moment
 
@@ -61,39 +61,61 @@ fresh-sound = record {
   rows = λ i h. record { long = length-rowAt 34 freshWords i (rw fresh-long (omega arith)); once = fresh-once i h };
 }
 
--- a command to a pair writes the pair's row, and leaves every other
-module _ (w : List ℕ) (s : Sound w) (i : ℕ) (h : i < 12) (c : Command) where
-  abbrev row′ : List ℕ
-  row′ = rowAfter (rowAt 34 w i) c
+-- ---- one command, on any words
 
-  abbrev put′ : List ℕ
-  put′ = putAt 34 w i row′
+module _ (w : List ℕ) (long : length w ≡ 408) (c : Command) where
+  module _ (i : ℕ) (h : i < 12) where
+    abbrev put′ : List ℕ
+    put′ = putAt 34 w i (rowAfter (rowAt 34 w i) c)
 
-  fits : i * 34 + 34 ≤ length w
-  fits = rw (s .long) (omega arith)
+    fits : i * 34 + 34 ≤ length w
+    fits = rw long (omega arith)
 
-  row-long : length row′ ≡ 34
-  row-long = row-steps (rowAt 34 w i) (s .rows i h) c .1 .long
+    row-long′ : length (rowAfter (rowAt 34 w i) c) ≡ 34
+    row-long′ = row-long (rowAt 34 w i) c ∙ length-rowAt 34 w i fits
 
-  own-row : rowAt 34 put′ i ≡ row′
-  own-row = rowAt-putAt 34 w i fits row′ row-long
+    put-long : length put′ ≡ 408
+    put-long = length-putAt 34 w i fits (rowAfter (rowAt 34 w i) c) row-long′ ∙ long
 
-  other-row : (j : ℕ) → j < 12 → (j ≡ i → ⊥) → rowAt 34 put′ j ≡ rowAt 34 w j
-  other-row j l ne = rowAt-putAt-other 34 w i fits row′ row-long j ne (rw (s .long) (omega arith))
+    own-row : rowAt 34 put′ i ≡ rowAfter (rowAt 34 w i) c
+    own-row = rowAt-putAt 34 w i fits (rowAfter (rowAt 34 w i) c) row-long′
 
-  put-sound : Sound put′
-  put-sound = record { long = length-putAt 34 w i fits row′ row-long ∙ s .long; rows = λ j l. go j l (ℕ-discrete j i) }
-    where
-      go : (j : ℕ) → j < 12 → Dec (j ≡ i) → Tidy (rowAt 34 put′ j)
-      go j l (yes e) = rw (e, own-row) (row-steps (rowAt 34 w i) (s .rows i h) c .1)
-      go j l (no ne) = rw (other-row j l ne) (s .rows j l)
+    other-row : (j : ℕ) → j < 12 → (j ≡ i → ⊥) → rowAt 34 put′ j ≡ rowAt 34 w j
+    other-row j l ne = rowAt-putAt-other 34 w i fits (rowAfter (rowAt 34 w i) c) row-long′ j ne (rw long (omega arith))
+
+module _ (w : List ℕ) (long : length w ≡ 408) (f t : ℕ) (c : Command) where
+  -- the words of every other pair are as they were
+  pub others-stay : (f′ t′ : ℕ) → twoPorts f′ t′ ≡ true → ((f ≡ f′) × (t ≡ t′) → ⊥) → rowOf (commanded w f t c .memory) f′ t′ ≡ rowOf w f′ t′
+  unfolding commanded
+  others-stay f′ t′ y′ ne =
+      test (twoPorts f t)
+      (λ y. rw y
+      (other-row w long c (pairOf f t) (number-fits f t y) (pairOf f′ t′) (number-fits f′ t′ y′) (λ q. ne (number-own f t f′ t′ y y′ (sym q)))))
+      (λ n. rw n)
+
+  -- a refusal leaves all words
+  pub refusal-stays : (commanded w f t c .answer .number ≡ 0 → ⊥) → commanded w f t c .memory ≡ w
+  unfolding commanded rowAfter
+  refusal-stays refused =
+      test (twoPorts f t)
+      (λ y. rw (y, ne-eqb (numberOf (pairAt w f t) c) 0 (rw y at refused)) (putAt-same 34 w (pairOf f t) (fits w long c (pairOf f t) (number-fits f t y))))
+      (λ n. rw n)
 
 -- ---- one call
 
 module _ (w : List ℕ) (s : Sound w) (f t : ℕ) where
   call-sound : (a : Ask) → Sound (calledBy w f t a .memory)
   unfolding commanded
-  call-sound (Order c) = test (twoPorts f t) (λ y. rw y (put-sound w s (pairOf f t) (number-fits f t y) c)) (λ n. rw n s)
+  call-sound (Order c) = test (twoPorts f t) (λ y. rw y (put-sound (pairOf f t) (number-fits f t y))) (λ n. rw n s)
+    where
+      put-sound : (i : ℕ) → i < 12 → Sound (putAt 34 w i (rowAfter (rowAt 34 w i) c))
+      put-sound i h = record { long = put-long w (s .long) c i h; rows = λ j l. go j l (ℕ-discrete j i) }
+        where
+          go : (j : ℕ) → j < 12 → Dec (j ≡ i) → Tidy (rowAt 34 (putAt 34 w i (rowAfter (rowAt 34 w i) c)) j)
+          go j l (yes e) =
+              rw (e, own-row w (s .long) c i h)
+              (record { long = row-long′ w (s .long) c i h; once = row-steps (rowAt 34 w i) (s .rows i h) c .1 })
+          go j l (no ne) = rw (other-row w (s .long) c i h j l ne) (s .rows j l)
   call-sound (Decide id) = s
 
   -- the pair that a call names goes by the call
@@ -101,18 +123,12 @@ module _ (w : List ℕ) (s : Sound w) (f t : ℕ) where
   unfolding commanded
   call-own (Order c) y =
       let h = number-fits f t y in
-      rw y (ap pairIn (own-row w s (pairOf f t) h c) ∙ row-steps (rowAt 34 w (pairOf f t)) (s .rows (pairOf f t) h) c .0)
+      rw y (ap pairIn (own-row w (s .long) c (pairOf f t) h) ∙ row-steps (rowOf w f t) (s .rows (pairOf f t) h) c .0)
   call-own (Decide id) y = refl
 
   -- and any other pair stays
   call-other : (a : Ask) (f′ t′ : ℕ) → twoPorts f′ t′ ≡ true → ((f ≡ f′) × (t ≡ t′) → ⊥) → pairAt (calledBy w f t a .memory) f′ t′ ≡ pairAt w f′ t′
-  unfolding commanded
-  call-other (Order c) f′ t′ y′ ne =
-      test (twoPorts f t)
-      (λ y. rw y
-      (ap pairIn
-      (other-row w s (pairOf f t) (number-fits f t y) c (pairOf f′ t′) (number-fits f′ t′ y′) (λ q. ne (number-own f t f′ t′ y y′ (sym q))))))
-      (λ n. rw n)
+  call-other (Order c) f′ t′ y′ ne = ap pairIn (others-stay w (s .long) f t c f′ t′ y′ ne)
   call-other (Decide id) f′ t′ y′ ne = refl
 
   -- its answer is the pair's, or 15
@@ -176,12 +192,21 @@ pub isolated : (h g : List Call) (c : Call) → only (names (c .from) (c .to)) h
     → called (wordsAfter h) c .answer ≡ called (wordsAfter g) c .answer
 isolated h g c e = answered h c ∙ rw e (sym (answered g c))
 
--- no PGN is ever listed twice, and no list ever holds more than 32
-pub listed-once : (h : List Call) (f t : ℕ) → twoPorts f t ≡ true → Once (rowAt width (wordsAfter h) (pairOf f t))
-listed-once h f t y = run-sound h .rows (pairOf f t) (number-fits f t y) .once
+-- the count is that of the PGNs that are listed, each once, and at most 32
+pub counted : (h : List Call) (f t : ℕ) → twoPorts f t ≡ true → Counted (pairAfter h f t)
+unfolding Once
+counted h f t y =
+    let r = rowOf (wordsAfter h) f t in
+    rw (← (pair-is h f t y))
+    (record {
+      at = λ k. getD r (2 + k) 0;
+      listed-at = λ k l. listed-at r (getD r (2 + k) 0) k l refl;
+      place = λ g e. let l = ltb-true (placeIn r g) (countIn r) e in (placeIn r g, l, place-holds r g l);
+      once = run-sound h .rows (pairOf f t) (number-fits f t y) .once;
+    })
 
 pub at-most : (h : List Call) (f t : ℕ) → twoPorts f t ≡ true → pairAfter h f t .count ≤ room
-at-most h f t y = rw (← (pair-is h f t y)) (count-most (rowAt width (wordsAfter h) (pairOf f t)))
+at-most h f t y = rw (← (pair-is h f t y)) (count-most (rowOf (wordsAfter h) f t))
 
 -- the order in which a list stands in memory says nothing: one mode, one set and one count, and every answer is the same
 pub order-free : (r s : List ℕ) → modeIn r ≡ modeIn s → ((g : ℕ) → listedIn r g ≡ listedIn s g) → countIn r ≡ countIn s

@@ -2,3 +2,4 @@ pub mod Numbers
 pub mod Calls
 pub mod Lists
 pub mod Commands
+pub mod Examples

@@ -1,12 +1,12 @@
 -- A row's words after a command mean what the command makes of the pair, and no PGN is ever listed twice. Assumes nothing.
-use mathlib.Core.Path.{_≡_, refl, sym, ap, _∙_, fun-ext}
+use mathlib.Core.Path.{_≡_, refl, sym, ap, _∙_}
 use mathlib.Core.Bool.{Bool, true, false, _&&_, _||_, not, cond, or-true, and-eq-true-iff, true≢false}
 use mathlib.Core.List.{List}
 use Prim.Native.Nat.{ℕ, _+_, _-_, _≤_, _<_}
 use native.Mathlib.Decide.{decLt, ℕ-discrete}
 use native.Mathlib.Omega.{arith}
-use borrow.Author.Tests.{ltb-true, ltb-false, leb-true, eqb-true, eqb-false, lt-ltb, le-ltb, eq-eqb, ne-eqb, not-true}
-use lib.Dec.{eqb, ltb, lit<}
+use borrow.Author.Tests.{ltb-true, ltb-false, eqb-true, eqb-false, lt-ltb, le-ltb, eq-eqb, ne-eqb, not-true}
+use lib.Dec.{eqb, ltb}
 use lib.ListN.{length, getD, set, length-set}
 use lib.Seq.{getD-set-same, getD-set-other}
 use Rattle.words.proofs.First.{first-same, first-holds, first-below}
@@ -48,12 +48,13 @@ pub count-is : (r : List ℕ) (n : ℕ) → getD r 1 0 ≡ n → n ≤ 32 → co
 unfolding countIn
 count-is r n e h = rw (e, le-ltb 32 n h)
 
-place-holds : (r : List ℕ) (g : ℕ) → placeIn r g < countIn r → getD r (2 + placeIn r g) 0 ≡ g
+-- a listed PGN stands at its place
+pub place-holds : (r : List ℕ) (g : ℕ) → placeIn r g < countIn r → getD r (2 + placeIn r g) 0 ≡ g
 unfolding placeIn
 place-holds r g h = eqb-true _ g (first-holds (λ k. eqb (getD r (2 + k) 0) g) (countIn r) h)
 
 -- a PGN that stands at a place below the count is listed
-listed-at : (r : List ℕ) (g k : ℕ) → k < countIn r → getD r (2 + k) 0 ≡ g → listedIn r g ≡ true
+pub listed-at : (r : List ℕ) (g k : ℕ) → k < countIn r → getD r (2 + k) 0 ≡ g → listedIn r g ≡ true
 unfolding placeIn
 listed-at r g k h e = go (decLt (placeIn r g) (countIn r))
   where
@@ -69,9 +70,6 @@ abbrev edited : List ℕ → ℕ → ℕ → ℕ → List ℕ
 edited r p v n = set (set r (2 + p) v) 1 n
 
 module _ (r : List ℕ) (long : length r ≡ 34) (p v n : ℕ) where
-  edit-long : length (edited r p v n) ≡ 34
-  edit-long = simp length-set long
-
   edit-mode : modeIn (edited r p v n) ≡ modeIn r
   edit-mode =
       ap (λ (m : ℕ). cond (eqb m 0) 0 1) (getD-set-other (set r (2 + p) v) 1 0 n 0 (omega arith) ∙ getD-set-other r (2 + p) 0 v 0 (omega arith))
@@ -241,6 +239,18 @@ module _ (r : List ℕ) (long : length r ≡ 34) (m : ℕ) where
 
 -- ---- any command
 
+-- a command leaves a row as long as it was
+pub row-long : (r : List ℕ) (c : Command) → length (rowAfter r c) ≡ length r
+unfolding rowAfter rewritten
+row-long r c = test (eqb (numberOf (pairIn r) c) 0) (λ y. rw y (go c)) (λ n. rw n)
+  where
+    go : (c : Command) → length (rewritten r c) ≡ length r
+    go (Add g) = test (listedIn r g) (λ y. rw y) (λ n. rw n (simp length-set))
+    go (Delete g) = simp length-set
+    go Clear = length-set r 1 0
+    go (SetMode m) = test (eqb m (modeIn r)) (λ y. rw y) (λ n. rw n (length-set r 0 m))
+
+-- a row of 34 words in which no PGN stands twice
 pub record Tidy (r : List ℕ) : Type 0 where
   pub long : length r ≡ 34
   pub once : Once r
@@ -249,42 +259,39 @@ pub record Tidy (r : List ℕ) : Type 0 where
 pub same-pair : {p q : Pair} → p .mode ≡ q .mode → ((x : ℕ) → p .listed x ≡ q .listed x) → p .count ≡ q .count → p ≡ q
 same-pair m l n = λ i. pair (m i) (λ x. l x i) (n i)
 
-obeys : (r : List ℕ) → Tidy r → (c : Command) → numberOf (pairIn r) c ≡ 0 → (pairIn (rewritten r c) ≡ obeyed (pairIn r) c) × Tidy (rewritten r c)
+obeys : (r : List ℕ) → Tidy r → (c : Command) → numberOf (pairIn r) c ≡ 0 → (pairIn (rewritten r c) ≡ obeyed (pairIn r) c) × Once (rewritten r c)
 unfolding numberOf rewritten obeyed
 obeys r t (Add g) e =
-    test (listedIn r g) (λ y. rw y (refl, t))
+    test (listedIn r g) (λ y. rw y (refl, t .once))
     (λ n.
     let fits = ltb-true (countIn r) 32 (taken (ltb (countIn r) 32) {n = 16} (omega arith) (rw n at (past (illFormed g) (omega arith) e))) in
     rw n (
       same-pair (edit-mode r (t .long) (countIn r) g (countIn r + 1)) (added-lists r (t .long) g fits) (added-count r (t .long) g fits),
-      record { long = edit-long r (t .long) (countIn r) g (countIn r + 1); once = added-once r (t .long) g fits (t .once) n },
+      added-once r (t .long) g fits (t .once) n,
     ))
 obeys r t (Delete g) e =
-    let held = ltb-true (placeIn r g) (countIn r) (taken (listedIn r g) {n = 18} (omega arith) (past (illFormed g) (omega arith) e)) in (
-      same-pair (edit-mode r (t .long) (placeIn r g) (getD r (1 + countIn r) 0) (countIn r - 1)) (deleted-lists r (t .long) g (t .once) held) (deleted-count r (t .long) g (t .once) held),
-      record { long = edit-long r (t .long) (placeIn r g) (getD r (1 + countIn r) 0) (countIn r - 1); once = deleted-once r (t .long) g (t .once) held },
+    let held = ltb-true (placeIn r g) (countIn r) (taken (listedIn r g) {n = 18} (omega arith) (past (illFormed g) (omega arith) e)) in
+    let l = t .long in
+    let o = t .once in (
+      same-pair (edit-mode r l (placeIn r g) (getD r (1 + countIn r) 0) (countIn r - 1)) (deleted-lists r l g o held) (deleted-count r l g o held),
+      deleted-once r l g o held,
     )
-obeys r t Clear e = (
-  same-pair (cleared-mode r (t .long)) (cleared-lists r (t .long)) (cleared-count r (t .long)),
-  record { long = length-set r 1 0 ∙ t .long; once = cleared-once r (t .long) },
-)
+obeys r t Clear e = (same-pair (cleared-mode r (t .long)) (cleared-lists r (t .long)) (cleared-count r (t .long)), cleared-once r (t .long))
 obeys r t (SetMode m) e =
-    test (eqb m (modeIn r)) (λ y. rw y (same-pair (sym (eqb-true m (modeIn r) y)) (λ x. refl) refl, t))
+    let l = t .long in
+    test (eqb m (modeIn r)) (λ y. rw y (same-pair (sym (eqb-true m (modeIn r) y)) (λ x. refl) refl, t .once))
     (λ n.
     rw n (
-      same-pair (mode-is r (t .long) m (small (ltb 1 m) refl)) (λ x. rw (mode-place r (t .long) m x, mode-count r (t .long) m)) (mode-count r (t .long) m),
-      record { long = length-set r 0 m ∙ t .long; once = mode-once r (t .long) m (t .once) },
+      same-pair (mode-is r l m (small (ltb 1 m) refl)) (λ x. rw (mode-place r l m x, mode-count r l m)) (mode-count r l m),
+      mode-once r l m (t .once),
     ))
   where
     small : (b : Bool) → ltb 1 m ≡ b → m ≤ 1
-    small true y = absurd (ten (rw y at e))
-      where
-        ten : _≡_ {A = ℕ} 19 0 → ⊥
-        ten q = omega arith
+    small true y = let q : _≡_ {A = ℕ} 19 0 = rw y at e in absurd (omega arith)
     small false y = ltb-false 1 m y
 
--- a refused command leaves the row, as it leaves the pair
-pub row-steps : (r : List ℕ) → Tidy r → (c : Command) → (pairIn (rowAfter r c) ≡ stepPair (pairIn r) c) × Tidy (rowAfter r c)
+-- the words after a command mean what the command makes of the pair; a refusal leaves both
+pub row-steps : (r : List ℕ) → Tidy r → (c : Command) → (pairIn (rowAfter r c) ≡ stepPair (pairIn r) c) × Once (rowAfter r c)
 unfolding rowAfter stepPair
 row-steps r t c =
-    test (eqb (numberOf (pairIn r) c) 0) (λ y. rw y (obeys r t c (eqb-true (numberOf (pairIn r) c) 0 y))) (λ n. rw n (refl, t))
+    test (eqb (numberOf (pairIn r) c) 0) (λ y. rw y (obeys r t c (eqb-true (numberOf (pairIn r) c) 0 y))) (λ n. rw n (refl, t .once))

@@ -1,5 +1,4 @@
 -- Runs of calls, and the pair that a run leaves (01's third demand on the ports). Calls come with any numbers. Assumes nothing.
-use mathlib.Core.Path.{_≡_}
 use mathlib.Core.Bool.{Bool, _&&_}
 use mathlib.Core.List.{List, [], _∷_}
 use Prim.Native.Nat.{ℕ}

@@ -1,7 +1,7 @@
 -- Where the pairs stand in the words that the caller lends: 12 rows of 34 words, a row for each pair. A row's words: 0 the mode, 1 how many
 -- PGNs are listed, 2 + k the PGN at place k. Total on any words: any mode but 0 is mode 1, a count above 32 is 32. Assumes nothing.
 use mathlib.Core.Path.{_≡_}
-use mathlib.Core.Bool.{Bool, true, false, _&&_, not, cond}
+use mathlib.Core.Bool.{Bool, _&&_, not, cond}
 use mathlib.Core.List.{List}
 use Prim.Native.Nat.{ℕ, _+_, _*_, _-_, _<_}
 use lib.Dec.{eqb, ltb, leb}
@@ -81,9 +81,12 @@ pairOf f t = cond (twoPorts f t) ((f - 1) * 3 + cond (ltb t f) (t - 1) (t - 2)) 
 unfoldable pub freshWords : List ℕ
 freshWords = replicate (pairs * width) 0
 
--- what a pair's words mean
+-- a pair's words, and what they mean
+abbrev pub rowOf : List ℕ → ℕ → ℕ → List ℕ
+rowOf w f t = rowAt width w (pairOf f t)
+
 abbrev pub pairAt : List ℕ → ℕ → ℕ → Pair
-pairAt w f t = pairIn (rowAt width w (pairOf f t))
+pairAt w f t = pairIn (rowOf w f t)
 
 -- a command in row i
 abbrev pub obeysAt : List ℕ → ℕ → Command → Noted
@@ -92,7 +95,7 @@ obeysAt w i c = noted (numberOf (pairIn (rowAt width w i)) c) (putAt width w i (
 -- a command: 15, or its answer by what the pair means, and the pair's own row afterwards; all other words stay
 unfoldable pub commanded : List ℕ → ℕ → ℕ → Command → Outcome
 commanded w f t c =
-    cond (twoPorts f t) (outcome (replied (pairAt w f t) c) (putAt width w (pairOf f t) (rowAfter (rowAt width w (pairOf f t)) c))) (outcome (plain 15) w)
+    cond (twoPorts f t) (outcome (replied (pairAt w f t) c) (putAt width w (pairOf f t) (rowAfter (rowOf w f t) c))) (outcome (plain 15) w)
 
 -- the deciding call: 15, or the answer by what the pair means
 unfoldable pub decided : List ℕ → ℕ → ℕ → ℕ → Said

@@ -1,7 +1,8 @@
 -- What a directed pair of ports is, what its commands do to it and what it answers (01, "Port pairs"), with no word of memory.
 -- Assumes nothing.
+use mathlib.Core.Path.{_≡_}
 use mathlib.Core.Bool.{Bool, true, false, _&&_, _||_, not, cond}
-use Prim.Native.Nat.{ℕ, _+_, _-_, _%_, _^_}
+use Prim.Native.Nat.{ℕ, _+_, _-_, _%_, _^_, _<_}
 use lib.Dec.{eqb, ltb}
 use Rattle.answers.specs.Answers.{Said, plain, done}
 use Rattle.frame.specs.Frame.{bits, fieldsOf, pgnOf}
@@ -20,6 +21,13 @@ pub record Pair : Type 0 where
 
 abbrev pub pair : ℕ → (ℕ → Bool) → ℕ → Pair
 pair m l n = record { mode = m; listed = l; count = n }
+
+-- the count is the number of the PGNs that are listed: they stand at the places below it, each at one
+pub record Counted (p : Pair) : Type 0 where
+  pub at : ℕ → ℕ
+  pub listed-at : (k : ℕ) → k < p .count → p .listed (at k) ≡ true
+  pub place : (g : ℕ) → p .listed g ≡ true → (k : ℕ) × (k < p .count) × (at k ≡ g)
+  pub once : (j k : ℕ) → j < p .count → k < p .count → at j ≡ at k → j ≡ k
 
 -- "A fresh pair has mode 0 and an empty list"
 abbrev pub freshPair : Pair
@@ -56,6 +64,6 @@ stepPair p c = cond (eqb (numberOf p c) 0) (obeyed p c) p
 abbrev pub replied : Pair → Command → Said
 replied p c = plain (numberOf p c)
 
--- the answer of the deciding call, past 15: "then 1, otherwise 0 with detail 1 for pass and 0 for block, by the frame's PGN"
+-- the answer of the deciding call: "then 1" (identifier above 2^29 - 1), "otherwise 0 with detail 1 for pass and 0 for block, by the frame's PGN"
 unfoldable pub decidedBy : Pair → ℕ → Said
 decidedBy p id = cond (ltb 536870911 id) (plain 1) (done (cond (passes (p .mode) (p .listed (pgnOf (fieldsOf id)))) 1 0))

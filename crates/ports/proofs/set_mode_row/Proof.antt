@@ -1,6 +1,6 @@
 use Rattle.ports.specs.Pairs.{numberOf}
 use Rattle.ports.specs.Filters.{rewritten, rowAfter}
-use borrow.Author.Tests.{eq-eqb, le-ltb, lt-leb, lt-ltb, ne-eqb}
+use borrow.Author.Tests.{eq-eqb, le-ltb, lt-ltb, ne-eqb}
 use borrow.Author.Needs.{needs}
 use Rattle.ports.proofs.set_mode_row.Statement.{statement}
 use Rattle.ports.proofs.set_mode_row.Tie as tie
