@@ -1,0 +1,9 @@
+use borrow.Author.Needs.{needs}
+use Rattle.firmware.proofs.yendrolf_filters_decide.Statement.{statement}
+use Rattle.firmware.proofs.yendrolf_filters_decide.Tie as tie
+
+returns : tie.Need-returns
+returns c = simp (c .in-c .ensures) (c .before .decide .ensures)
+
+pub yendrolf-filters-decide-spec : {M : Type 1} → statement M
+yendrolf-filters-decide-spec = tie.close (tie.spec (λ c κs. search needs) (λ c κs. search needs) returns)

@@ -1,0 +1,114 @@
+// The box's calls for C (include/yendrolf.h declares them): each is one call of a room below, on memory that C lends as one pointer, and has that
+// room's promise. The length of what is lent stands in the type, so it is C that answers for it; include/yendrolf.h makes it one block.
+ghost use mathlib.Core.Path.{_≡_};
+ghost use Rattle.answers.specs.Answers.{inNumbers, outcome};
+ghost use Rattle.table.specs.Layout.{keyOf, keyNumber};
+ghost use Rattle.table.specs.Learn.{learnt, emptyTable};
+ghost use Rattle.table.specs.Forget.{forgotten};
+ghost use Rattle.ports.specs.declared.Command.the-variants.{Add, Delete, Clear, SetMode};
+ghost use Rattle.ports.specs.Filters.{commanded, decided, freshWords};
+ghost use Rattle.firmware.specs.Told.{saidTo, toldOf};
+use answers::Answer;
+
+// An answer in 01's numbers: judgement and position are 0 but for 12 and for 0 of judging, where they are the detail.
+#[repr(C)]
+pub struct Told {
+    pub number: u32,
+    pub detail: u32,
+    pub judgement: u32,
+    pub position: u32,
+}
+
+// An answer as C gets it.
+fn in_c(a: Answer) -> Told
+    ensures { λ r. ⌜ r ≡ toldOf a ⌝ }
+{
+    let judgement = a.judgement;
+    Told {
+        number: a.number as u32,
+        detail: a.detail,
+        judgement: answers::number_of(judgement) as u32,
+        position: answers::position_of(judgement) as u32,
+    }
+}
+
+// ---- the learned table
+
+// Makes an empty table of any words.
+#[no_mangle]
+pub extern "C" fn yendrolf_table_empty(t: &mut [u64; 1072])
+    ensures { λ r. ⌜ now (t .exit) ≡ emptyTable ⌝ }
+{
+    table::empty(t)
+}
+
+// Learns from one frame.
+#[no_mangle]
+pub extern "C" fn yendrolf_table_learn(t: &mut [u64; 1072], id: u32, len: u8, d: &[u8; 8]) -> Told
+    ensures { λ r. ⌜ outcome (saidTo r) (now (t .exit)) ≡ learnt (now (t .entry)) id len (now (d .entry)) ⌝ }
+{
+    in_c(table::learn(t, id, len, d))
+}
+
+// Forgets one key.
+#[no_mangle]
+pub extern "C" fn yendrolf_table_forget(
+    t: &mut [u64; 1072],
+    source: u8,
+    destination: u8,
+    k: u8,
+) -> Told
+    ensures { λ r. ⌜ outcome (saidTo r) (now (t .exit)) ≡ forgotten (now (t .entry)) (keyNumber (keyOf source destination k)) ⌝ }
+{
+    in_c(table::forget(t, source, destination, k))
+}
+
+// ---- the filters
+
+// Makes all filters fresh.
+#[no_mangle]
+pub extern "C" fn yendrolf_filters_fresh(w: &mut [u32; 408])
+    ensures { λ r. ⌜ now (w .exit) ≡ freshWords ⌝ }
+{
+    ports::fresh(w)
+}
+
+// Adds a PGN to the list of one pair.
+#[no_mangle]
+pub extern "C" fn yendrolf_filters_add(w: &mut [u32; 408], from: u8, to: u8, pgn: u32) -> Told
+    ensures { λ r. ⌜ outcome (saidTo r) (now (w .exit)) ≡ commanded (now (w .entry)) from to (Add pgn) ⌝ }
+{
+    in_c(ports::add(w, from, to, pgn))
+}
+
+// Deletes a PGN from the list of one pair.
+#[no_mangle]
+pub extern "C" fn yendrolf_filters_delete(w: &mut [u32; 408], from: u8, to: u8, pgn: u32) -> Told
+    ensures { λ r. ⌜ outcome (saidTo r) (now (w .exit)) ≡ commanded (now (w .entry)) from to (Delete pgn) ⌝ }
+{
+    in_c(ports::delete(w, from, to, pgn))
+}
+
+// Empties the list of one pair; its mode is kept.
+#[no_mangle]
+pub extern "C" fn yendrolf_filters_clear(w: &mut [u32; 408], from: u8, to: u8) -> Told
+    ensures { λ r. ⌜ outcome (saidTo r) (now (w .exit)) ≡ commanded (now (w .entry)) from to Clear ⌝ }
+{
+    in_c(ports::clear(w, from, to))
+}
+
+// Sets the mode of one pair.
+#[no_mangle]
+pub extern "C" fn yendrolf_filters_set_mode(w: &mut [u32; 408], from: u8, to: u8, mode: u8) -> Told
+    ensures { λ r. ⌜ outcome (saidTo r) (now (w .exit)) ≡ commanded (now (w .entry)) from to (SetMode mode) ⌝ }
+{
+    in_c(ports::set_mode(w, from, to, mode))
+}
+
+// Decides on a frame from one port to another by its identifier.
+#[no_mangle]
+pub extern "C" fn yendrolf_filters_decide(w: &[u32; 408], from: u8, to: u8, id: u32) -> Told
+    ensures { λ r. ⌜ saidTo r ≡ decided (now (w .entry)) from to id ⌝ }
+{
+    in_c(ports::decide(w, from, to, id))
+}
