@@ -17,10 +17,11 @@ use Rattle.message.specs.declared.Place.{Place}
 use Rattle.payload.specs.Bits.{any, lowest, tabulate}
 use Rattle.payload.specs.Place.{endOf, sharesBit, endIn, endTo, bytesFor, sizeOf}
 use Rattle.payload.specs.Payload.{Apart}
-use Rattle.payload.specs.Calls.{lacksPlace, unplacedIn}
+use Rattle.payload.specs.Calls.{unplacedIn}
 use Rattle.payload.proofs.Below.{any-each, any-none, lowest-each, lowest-none}
 use Rattle.payload.proofs.Bits.{length-tabulate, get-tabulate}
 use Rattle.payload.proofs.Place.{apart}
+use Rattle.payload.proofs.Placed.{none-unplaced}
 use Rattle.maps.specs.Maps.{Map, Nothing, Conflict, Held}
 use Rattle.maps.specs.Judge.{Param, withWidth, measured, isNone, spnAt, startAt, widthAt, widthIn, everyone, missing, unknown, repeated, notAbove, overlaps, beyond, wrongTransport, rules, firstNamed, sizeOver, judgeOver, judge, usable, countOf, paramsOf, spnsOf, startsOf, widthsOf, lengthOf}
 use Rattle.maps.proofs.Tests.{test, never}
@@ -188,9 +189,8 @@ module _ (widthOf : ℕ → ℕ) (m : Map) (u : usable widthOf m ≡ true) where
 
     -- so packing and reading a usable map of at most 64 positions never finds one without a place
     pub usable-placed : countOf m ≤ 64 → unplacedIn (startsOf widthOf m) (widthsOf widthOf m) ≡ 0
-    unfolding unplacedIn lacksPlace
     usable-placed l =
-        lowest-none _ (length (startsOf widthOf m))
+        none-unplaced (startsOf widthOf m) (widthsOf widthOf m)
         (λ i h. let k : i < countOf m = rw (length-tabulate (startAt (paramsOf widthOf m)) (countOf m)) at h in
         let (a, b) = usable-width i k in
-        rw (lt-leb 64 i (omega arith), le-ltb _ 1 a, le-ltb 32 _ b) (le-ltb 14280 _ (usable-end i k)))
+        record { position = omega arith; some = a; most = b; ends = usable-end i k })
