@@ -1,0 +1,37 @@
+-- A key's state after any run is what the run's counted events that name it make of the start, in their order: events that name other
+-- keys, and those that do not count, fall away. Assumes nothing.
+use mathlib.Core.Path.{_≡_, refl, sym, ap, _∙_}
+use mathlib.Core.Bool.{Bool, true, false, _&&_, cond}
+use mathlib.Core.List.{List, [], _∷_}
+use Rattle.words.specs.Runs.{kept, only, since, fold, Keyed}
+
+module _ {Key E S : Type 0} (names : Key → E → Bool) (counts : List E → E → Bool) (step : S → E → S) (start : S)
+    {table : List E → Key → S} (t : Keyed names counts step start table) where
+  pub own-events : (h : List E) (k : Key) → table h k ≡ fold step start (only (names k) (kept counts h))
+  own-events [] k = t .fresh k
+  own-events (e ∷ h) k = t .next e h k ∙ go (counts (kept counts h) e) (names k e) refl (own-events h k)
+    where
+      go : (c n : Bool) {s : S} → names k e ≡ n → s ≡ fold step start (only (names k) (kept counts h))
+          → cond (c && n) (step s e) s ≡ fold step start (only (names k) (cond c (e ∷ kept counts h) (kept counts h)))
+      go true true q i = rw q (ap (λ (s : S). step s e) i)
+      go true false q i = rw q i
+      go false n q i = i
+
+  -- two runs with the same events of a key leave it in the same state
+  pub same-events : (h g : List E) (k : Key) → only (names k) (kept counts h) ≡ only (names k) (kept counts g) → table h k ≡ table g k
+  same-events h g k q = own-events h k ∙ ap (fold step start) q ∙ sym (own-events g k)
+
+-- a run of which every event counts is kept whole
+pub kept-all : {E : Type 0} (counts : List E → E → Bool) → ((h : List E) (e : E) → counts h e ≡ true) → (h : List E) → kept counts h ≡ h
+kept-all counts all [] = refl
+kept-all counts all (e ∷ h) = rw (all (kept counts h) e) (ap (λ (l : List _). e ∷ l) (kept-all counts all h))
+
+-- an event that brings back the start cuts off what was before it
+pub fold-since : {E S : Type 0} (step : S → E → S) (start : S) (ends : E → Bool) → ((s : S) (e : E) → ends e ≡ true → step s e ≡ start)
+    → (h : List E) → fold step start h ≡ fold step start (since ends h)
+fold-since step start ends again [] = refl
+fold-since step start ends again (e ∷ h) = go (ends e) refl (fold-since step start ends again h)
+  where
+    go : (b : Bool) → ends e ≡ b → fold step start h ≡ fold step start (since ends h) → step (fold step start h) e ≡ fold step start (cond b [] (e ∷ since ends h))
+    go true q i = again (fold step start h) e q
+    go false q i = ap (λ (s : _). step s e) i

@@ -1,0 +1,1 @@
+// Definitions and laws that other crates cite: searches, rows of words, tables of slots, runs. It has no function.
