@@ -5,3 +5,4 @@ pub mod RowKeys
 pub mod View
 pub mod Learning
 pub mod Forgetting
+pub mod Lowest
