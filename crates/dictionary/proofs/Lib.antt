@@ -1,0 +1,3 @@
+pub mod Lookup
+pub mod Rule
+pub mod Table

@@ -1,0 +1,10 @@
+pub mod Below
+pub mod Bits
+pub mod Laid
+pub mod Replace
+pub mod Run
+pub mod Place
+pub mod Previous
+pub mod Laws
+pub mod Placed
+pub mod Told

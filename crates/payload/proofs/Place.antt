@@ -1,0 +1,90 @@
+-- Laws of `place`, `endOf` and `sharesBit`: no other file opens `place` or `endOf`. Assumes nothing.
+use mathlib.Core.Path.{_≡_, refl, sym, ap, _∙_}
+use mathlib.Core.Bool.{false}
+use mathlib.Core.List.{List}
+use mathlib.Core.Logic.{⊎-elim}
+use Prim.Native.Nat.{ℕ, zero, suc, _+_, _*_, _≤_, _<_, max}
+use native.Mathlib.Nat.{not-suc-le-zero, le-of-suc-le-suc, eq-or-lt-of-le}
+use native.Mathlib.Numerals.{add-one}
+use native.Mathlib.Decide.{decLt}
+use native.Mathlib.Omega.{arith}
+use lib.ListN.{length, getD}
+use Rattle.payload.specs.Bits.{bitOf, laid, meet, runAt}
+use Rattle.payload.specs.Place.{place, endOf, sharesBit, sharesEarlier, placeIn, endIn, endTo, bytesFor, sizeOf}
+use Rattle.payload.specs.Payload.{readNumber, Apart}
+use Rattle.payload.proofs.Below.{any-each, meet-each}
+
+-- ---- what the laws of payloads rest on
+place-one : (s w j k : ℕ) → j < w → k < w → place s w j ≡ place s w k → j ≡ k
+unfolding place
+place-one s w j k hj hk e = omega arith
+
+place-lt : (s w j : ℕ) → j < w → place s w j < endOf s w
+unfolding place endOf
+place-lt s w j h = omega arith
+
+-- ---- a parameter is one run: what `put`, `get`, `shares` and `end_bit` rest on
+pub place-run : (s w v p b : ℕ) → laid (λ i. s + i) (bitOf v) w p b ≡ laid (place s w) (bitOf v) w p b
+unfolding place
+place-run s w v p b = refl
+
+pub read-run : (xs : List ℕ) (s w : ℕ) → runAt xs s w ≡ readNumber xs s w
+unfolding place readNumber runAt
+read-run xs s w = refl
+
+pub shares-run : (s1 w1 s2 w2 : ℕ) → meet (λ i. s1 + i) w1 (λ i. s2 + i) w2 ≡ sharesBit s1 w1 s2 w2
+unfolding place sharesBit
+shares-run s1 w1 s2 w2 = refl
+
+pub end-run : (s w : ℕ) → endOf s w ≡ s + w
+unfolding endOf
+end-run s w = refl
+
+-- ---- a map, whatever `place` and `endOf` are
+pub shares-none : (s1 w1 s2 w2 : ℕ) → sharesBit s1 w1 s2 w2 ≡ false
+    → (k l : ℕ) → k < w1 → l < w2 → place s1 w1 k ≡ place s2 w2 l → ⊥
+unfolding sharesBit
+shares-none s1 w1 s2 w2 = meet-each (place s1 w1) w1 (place s2 w2) w2
+
+module _ (ss ws : List ℕ) where
+  pub end-more : (n : ℕ) → endTo ss ws (n + 1) ≡ max (endTo ss ws n) (endIn ss ws n)
+  unfolding endTo
+  end-more n = rw add-one
+
+  pub end-le : (i n : ℕ) → i < n → endIn ss ws i ≤ endTo ss ws n
+  unfolding endTo
+  end-le i zero h = absurd (not-suc-le-zero h)
+  end-le i (suc n) h =
+      ⊎-elim (λ (e : i ≡ n). rw e (omega arith)) (λ l. omega (arith, end-le i n l)) (eq-or-lt-of-le (le-of-suc-le-suc h))
+
+  pub end-in : endTo ss ws (length ss) ≤ 8 * sizeOf ss ws
+  unfolding sizeOf bytesFor
+  end-in = omega arith
+
+  -- a map of which no two parameters share a bit is one that the laws of payloads hold of
+  pub apart : ((i j : ℕ) → i < j → j < length ss → sharesBit (getD ss i 0) (getD ws i 0) (getD ss j 0) (getD ws j 0) ≡ false) → Apart ss ws
+  apart h = record { once = once; inside = inside }
+    where
+      inside : (i k : ℕ) → i < length ss → k < getD ws i 0 → placeIn ss ws i k < 8 * sizeOf ss ws
+      inside i k l m = omega (arith, place-lt (getD ss i 0) (getD ws i 0) k m, end-le i (length ss) l, end-in)
+
+      unlike : (i j k l : ℕ) → i < j → j < length ss → k < getD ws i 0 → l < getD ws j 0 → placeIn ss ws i k ≡ placeIn ss ws j l → ⊥
+      unlike i j k l m n = shares-none (getD ss i 0) (getD ws i 0) (getD ss j 0) (getD ws j 0) (h i j m n) k l
+
+      once : (i j k l : ℕ) → i < length ss → j < length ss → k < getD ws i 0 → l < getD ws j 0
+          → placeIn ss ws i k ≡ placeIn ss ws j l → (i ≡ j) × (k ≡ l)
+      once i j k l hi hj hk hl e =
+          elim (decLt i j) [
+            | yes m ↦ absurd (unlike i j k l m hj hk hl e)
+            | no m ↦ elim (decLt j i) [
+              | yes n ↦ absurd (unlike j i l k n hi hl hk (sym e))
+              | no n ↦ same (omega arith)
+            ]
+          ]
+        where
+          same : i ≡ j → (i ≡ j) × (k ≡ l)
+          same q = (q, place-one (getD ss i 0) (getD ws i 0) k l hk (rw q hl) (e ∙ ap (λ (x : ℕ). placeIn ss ws x l) (sym q)))
+
+  pub apart-earlier : ((i : ℕ) → i < length ss → sharesEarlier (λ k. getD ss k 0) (λ k. getD ws k 0) i ≡ false) → Apart ss ws
+  unfolding sharesEarlier
+  apart-earlier h = apart (λ i j l m. any-each _ j (h j m) i l)

@@ -1,0 +1,4 @@
+pub mod Bits
+pub mod Place
+pub mod Payload
+pub mod Calls

@@ -1,0 +1,71 @@
+// The 13 bytes of a record of a log (01, "The listing program"): identifier least significant byte first, length, 8 data bytes.
+ghost use mathlib.Core.Path.{_≡_};
+ghost use mathlib.Core.List.{List};
+ghost use Rattle.answers.specs.Answers.{outcome, inNumbers};
+ghost use Rattle.record.specs.Record.{fourOf, recordIn, bytesOf, written};
+use answers::Answer;
+
+// A frame as a log has it.
+pub struct Record {
+    pub id: u32,
+    pub len: u8,
+    pub bytes: [u8; 8],
+}
+
+// Four bytes as one number, the least significant first.
+fn four(a: u8, b: u8, c: u8, d: u8) -> u32
+    ensures { λ r. ⌜ r ≡ fourOf a b c d ⌝ }
+{
+    (a as u32) + (b as u32) * 256 + (c as u32) * 65536 + (d as u32) * 16777216
+}
+
+// The record in the first 13 bytes, or one of zeros where there are fewer.
+pub fn read(s: &[u8]) -> Record
+    ensures { λ r. ⌜ r ≡ recordIn (now (s .entry)) ⌝ }
+{
+    if s.len() < 13 {
+        return Record {
+            id: 0,
+            len: 0,
+            bytes: [0; 8],
+        };
+    }
+    let id = four(s[0], s[1], s[2], s[3]);
+    Record {
+        id,
+        len: s[4],
+        bytes: [s[5], s[6], s[7], s[8], s[9], s[10], s[11], s[12]],
+    }
+}
+
+// The 13 bytes of a frame.
+fn bytes_of(id: u32, len: u8, d: &[u8; 8]) -> [u8; 13]
+    ensures { λ r. ⌜ r ≡ bytesOf id len (now (d .entry)) ⌝ }
+{
+    [
+        (id % 256) as u8,
+        (id / 256 % 256) as u8,
+        (id / 65536 % 256) as u8,
+        (id / 16777216) as u8,
+        len,
+        d[0],
+        d[1],
+        d[2],
+        d[3],
+        d[4],
+        d[5],
+        d[6],
+        d[7],
+    ]
+}
+
+// Lays a record over the first 13 bytes: 0, or 13 and nothing written where there are fewer.
+pub fn write(s: &mut [u8], id: u32, len: u8, d: &[u8; 8]) -> Answer
+    ensures { λ r. ⌜ outcome (inNumbers r) (now (s .exit)) ≡ written (now (s .entry)) id len (now (d .entry)) ⌝ }
+{
+    let b = bytes_of(id, len, d);
+    if splice::copy_at(s, 0, &b) {
+        return answers::plainly(0);
+    }
+    answers::plainly(13)
+}

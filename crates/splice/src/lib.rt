@@ -1,0 +1,35 @@
+// Bytes laid into a lent buffer, from a given byte on and nowhere else.
+ghost use mathlib.Core.Path.{_≡_};
+ghost use Prim.Native.Nat.{_+_, _≤_};
+ghost use lib.ListN.{length};
+ghost use Rattle.splice.specs.Splice.{splice, over, fits, laid};
+
+// Copies src over the start of dst, as far as both reach.
+pub fn copy_in(dst: &mut [u8], src: &[u8])
+    ensures { λ _. ⌜ now (dst .exit) ≡ over (now (dst .entry)) (now (src .entry)) ⌝ }
+{
+    let mut i = 0;
+    while i < src.len() {
+        if dst.len() <= i {
+            return;
+        }
+        dst[i] = src[i];
+        i += 1;
+    }
+}
+
+// Copies src into dst from `at` on, where it has room; else nothing changes.
+pub fn copy_at(dst: &mut [u8], at: usize, src: &[u8]) -> bool
+    ensures { λ r. ⌜ r ≡ fits (now (dst .entry)) at (now (src .entry)) ⌝ }
+    ensures { λ r. ⌜ now (dst .exit) ≡ laid (now (dst .entry)) at (now (src .entry)) ⌝ }
+{
+    if dst.len() < at {
+        return false;
+    }
+    let end = src.len();
+    if dst.len() - at < end {
+        return false;
+    }
+    copy_in(&mut dst[at..at + end], src);
+    true
+}
