@@ -1,13 +1,22 @@
--- The answer that C gets, in 01's numbers: its four fields are the four of `Said`.
+-- What C gets, in 01's numbers.
 -- Assumes nothing.
 use Prim.Native.Nat.{ℕ}
+use mathlib.Core.Option.{Option, none, some}
 use Rattle.answers.specs.Answers.{Said, saidOf}
 use Rattle.answers.specs.declared.Answer.{Answer}
+use Rattle.message.specs.declared.Key.{Key}
 use Rattle.firmware.specs.declared.Told.{Told}
+use Rattle.firmware.specs.declared.Held.{Held}
 
+-- an answer: its four fields are the four of `Said`
 abbrev pub saidTo : Told → Said
 saidTo t = record { number = t .number; detail = t .detail; judgement = t .judgement; position = t .position }
 
--- an answer as C gets it
+-- an answer of the rooms below, as C gets it
 abbrev pub toldOf : Answer → Told
 toldOf a = record { number = a .number; detail = a .detail; judgement = saidOf (a .judgement) .number; position = saidOf (a .judgement) .position }
+
+-- a held key: 1 and the key, or four times 0
+abbrev pub heldOf : Option Key → Held
+heldOf (some k) = record { held = 1; source = k .source; destination = k .destination; k = k .k }
+heldOf none = record { held = 0; source = 0; destination = 0; k = 0 }

@@ -5,10 +5,12 @@ ghost use Rattle.answers.specs.Answers.{inNumbers, outcome};
 ghost use Rattle.table.specs.Layout.{keyOf, keyNumber};
 ghost use Rattle.table.specs.Learn.{learnt, emptyTable};
 ghost use Rattle.table.specs.Forget.{forgotten};
+ghost use Rattle.table.specs.Next.{keyFound, firstKey, nextKey};
 ghost use Rattle.ports.specs.declared.Command.the-variants.{Add, Delete, Clear, SetMode};
 ghost use Rattle.ports.specs.Filters.{commanded, decided, freshWords};
-ghost use Rattle.firmware.specs.Told.{saidTo, toldOf};
+ghost use Rattle.firmware.specs.Told.{saidTo, toldOf, heldOf};
 use answers::Answer;
+use table::Next;
 
 // An answer in 01's numbers: judgement and position are 0 but for 12 and for 0 of judging, where they are the detail.
 #[repr(C)]
@@ -29,6 +31,35 @@ fn in_c(a: Answer) -> Told
         detail: a.detail,
         judgement: answers::number_of(judgement) as u32,
         position: answers::position_of(judgement) as u32,
+    }
+}
+
+// A held key, or four times 0.
+#[repr(C)]
+pub struct Held {
+    pub held: u32,
+    pub source: u32,
+    pub destination: u32,
+    pub k: u32,
+}
+
+// A key as C gets it.
+fn key_in_c(next: Next) -> Held
+    ensures { λ r. ⌜ r ≡ heldOf (keyFound next) ⌝ }
+{
+    match next {
+        Next::Found(key) => Held {
+            held: 1,
+            source: key.source as u32,
+            destination: key.destination as u32,
+            k: key.k as u32,
+        },
+        Next::NoMore => Held {
+            held: 0,
+            source: 0,
+            destination: 0,
+            k: 0,
+        },
     }
 }
 
@@ -61,6 +92,27 @@ pub extern "C" fn yendrolf_table_forget(
     ensures { λ r. ⌜ outcome (saidTo r) (now (t .exit)) ≡ forgotten (now (t .entry)) (keyNumber (keyOf source destination k)) ⌝ }
 {
     in_c(table::forget(t, source, destination, k))
+}
+
+// The lowest held key.
+#[no_mangle]
+pub extern "C" fn yendrolf_table_first_key(t: &[u64; 1072]) -> Held
+    ensures { λ r. ⌜ r ≡ heldOf (firstKey (now (t .entry))) ⌝ }
+{
+    key_in_c(table::first_key(t))
+}
+
+// The lowest held key above the given one.
+#[no_mangle]
+pub extern "C" fn yendrolf_table_next_key(
+    t: &[u64; 1072],
+    source: u8,
+    destination: u8,
+    k: u8,
+) -> Held
+    ensures { λ r. ⌜ r ≡ heldOf (nextKey (now (t .entry)) (keyOf source destination k)) ⌝ }
+{
+    key_in_c(table::next_key(t, source, destination, k))
 }
 
 // ---- the filters

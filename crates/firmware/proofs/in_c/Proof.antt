@@ -1,3 +1,5 @@
+-- `firmware::in_c` meets its contract: 01's number and position of a judgement are what `answers` gives.
+-- Assumes nothing.
 use borrow.Author.Needs.{needs}
 use Rattle.firmware.proofs.in_c.Statement.{statement}
 use Rattle.firmware.proofs.in_c.Tie as tie

@@ -1,3 +1,5 @@
+-- `firmware::yendrolf_filters_add` meets its contract: the promise of the room below, with the answer as C gets it.
+-- Assumes nothing.
 use borrow.Author.Needs.{needs}
 use Rattle.firmware.proofs.yendrolf_filters_add.Statement.{statement}
 use Rattle.firmware.proofs.yendrolf_filters_add.Tie as tie
