@@ -20,6 +20,9 @@ yendrolf_told FAST(table_read)(const uint64_t *table, uint8_t source, uint8_t de
 yendrolf_found FAST(table_find)(const uint64_t *table, uint8_t source, uint8_t destination, uint8_t k, uint32_t spn);
 yendrolf_key FAST(table_first_key)(const uint64_t *table);
 yendrolf_key FAST(table_next_key)(const uint64_t *table, uint8_t source, uint8_t destination, uint8_t k);
+yendrolf_log FAST(log_start)(void);
+yendrolf_log FAST(table_feed)(uint64_t *table, yendrolf_log log, const uint8_t *chunk, size_t size);
+yendrolf_told FAST(table_finish)(const uint64_t *table, yendrolf_log log, uint8_t *text, size_t room);
 void FAST(filters_fresh)(uint32_t *filters);
 yendrolf_told FAST(filters_add)(uint32_t *filters, uint8_t from, uint8_t to, uint32_t pgn);
 yendrolf_told FAST(filters_delete)(uint32_t *filters, uint8_t from, uint8_t to, uint32_t pgn);

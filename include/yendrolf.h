@@ -78,6 +78,15 @@ typedef struct {
     uint32_t k;
 } yendrolf_key;
 
+/* What is kept of a log from chunk to chunk: its counts, and the bytes of a record that is not whole yet. */
+typedef struct {
+    uint64_t records;
+    uint64_t refused;
+    uint64_t other;
+    uint64_t left;
+    uint8_t carry[13];
+} yendrolf_log;
+
 /* The functions of the archive, each on one part of a box. The calls below pass the part. */
 void yendrolf_table_empty(uint64_t *table);
 yendrolf_told yendrolf_table_learn(uint64_t *table, uint32_t identifier, uint8_t length, const uint8_t *data);
@@ -90,6 +99,9 @@ yendrolf_told yendrolf_table_read(const uint64_t *table, uint8_t source, uint8_t
 yendrolf_found yendrolf_table_find(const uint64_t *table, uint8_t source, uint8_t destination, uint8_t k, uint32_t spn);
 yendrolf_key yendrolf_table_first_key(const uint64_t *table);
 yendrolf_key yendrolf_table_next_key(const uint64_t *table, uint8_t source, uint8_t destination, uint8_t k);
+yendrolf_log yendrolf_log_start(void);
+yendrolf_log yendrolf_table_feed(uint64_t *table, yendrolf_log log, const uint8_t *chunk, size_t size);
+yendrolf_told yendrolf_table_finish(const uint64_t *table, yendrolf_log log, uint8_t *text, size_t room);
 void yendrolf_filters_fresh(uint32_t *filters);
 yendrolf_told yendrolf_filters_add(uint32_t *filters, uint8_t from, uint8_t to, uint32_t pgn);
 yendrolf_told yendrolf_filters_delete(uint32_t *filters, uint8_t from, uint8_t to, uint32_t pgn);
@@ -154,6 +166,28 @@ static inline yendrolf_key yendrolf_first_key(const yendrolf_box *box)
 static inline yendrolf_key yendrolf_next_key(const yendrolf_box *box, uint8_t source, uint8_t destination, uint8_t k)
 {
     return yendrolf_table_next_key(box->table, source, destination, k);
+}
+
+/* ---- the listing of a log: start, then feed each chunk of records (13 bytes each: identifier least significant byte first, length, 8 data bytes), then
+   finish. The box learns from the log as from frames. */
+
+/* Nothing read yet. */
+static inline yendrolf_log yendrolf_start_log(void)
+{
+    return yendrolf_log_start();
+}
+
+/* Takes the next `size` bytes of a log, cut anywhere. */
+static inline yendrolf_log yendrolf_feed(yendrolf_box *box, yendrolf_log log, const uint8_t *chunk, size_t size)
+{
+    return yendrolf_table_feed(box->table, log, chunk, size);
+}
+
+/* Writes the listing of what was fed, as lines of text, over the start of `text`, which has `room` bytes: 13 where they are too few, or 0 with the
+   listing's length as its detail. 512 bytes are always enough. */
+static inline yendrolf_told yendrolf_finish(const yendrolf_box *box, yendrolf_log log, uint8_t *text, size_t room)
+{
+    return yendrolf_table_finish(box->table, log, text, room);
 }
 
 /* ---- the filters. A pair is directed, from one port to another, ports being 1 to 4. */
