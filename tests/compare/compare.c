@@ -588,6 +588,45 @@ static void check_filters(void)
     checks++;
 }
 
+/* A log of any frames, fed in chunks of any size, and its listing, laid into a buffer that is long enough or not. */
+static void listing(void)
+{
+    static uint8_t log[13 * 400 + 13], text[600], held[600];
+    static char wanted[1024];
+    static yendrolf_box own;
+    size_t size = 13 * (size_t)below(one_in(3) ? 4 : 400), fed = 0;
+    for (size_t at = 0; at < size; at += 13) {
+        struct frame f = any_frame();
+        for (unsigned i = 0; i < 4; i++)
+            log[at + i] = (uint8_t)(f.identifier >> 8 * i);
+        log[at + 4] = f.length;
+        memcpy(log + at + 5, f.data, 8);
+    }
+    for (unsigned cut = one_in(2) ? below(13) : 0; cut > 0; cut--)
+        log[size++] = (uint8_t)any();
+    size_t length = plain_listing(log, size, wanted, sizeof wanted);
+    unsigned longest_chunk = one_in(3) ? 5 : one_in(2) ? 40 : 6000;
+    yendrolf_empty(&own);
+    yendrolf_log state = yendrolf_start_log();
+    while (fed < size) {
+        size_t chunk = below(longest_chunk);
+        if (chunk > size - fed)
+            chunk = size - fed;
+        state = yendrolf_feed(&own, state, log + fed, chunk);
+        fed += chunk;
+    }
+    fill_bytes(text, held, sizeof text);
+    size_t room = one_in(4) ? length : one_in(4) ? length - 1 : one_in(8) ? below(40) : sizeof text;
+    snprintf(told_call, sizeof told_call, "listing of %zu bytes into %zu:\n%.*s", size, room, (int)length, wanted);
+    struct plain_answer b = { room < length ? 13 : 0, room < length ? 0 : (unsigned)length, 0, 0 };
+    same(LIST, yendrolf_finish(&own, state, text, room), b);
+    if (b.number == 0)
+        memcpy(held, wanted, length);
+    if (memcmp(text, held, sizeof text) != 0)
+        differ("the listing");
+    unchanged();
+}
+
 /* ---- scenes */
 
 /* Maps that no wire can carry, of up to 64 positions with starts up to 14,279, laid into the table's words as crates/table/specs/Layout.antt has
@@ -667,8 +706,10 @@ static void one_call(void)
         command(DELETE);
     else if (what < 878)
         command(CLEAR);
-    else if (what < 920)
+    else if (what < 915)
         command(MODE);
+    else if (what < 920)
+        listing();
     else
         command(DECIDE);
 }
