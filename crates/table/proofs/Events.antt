@@ -49,7 +49,7 @@ sane-event t s (Forget k) f = sane-forget t s (keyNumber k)
 
 -- ---- what the table has of a key that a call can name
 
-looks : (t : List ℕ) (k : Key) → InBytes k → tableOf t .look k ≡ mapIn t k
+pub looks : (t : List ℕ) (k : Key) → InBytes k → tableOf t .look k ≡ mapIn t k
 looks t k b = rw (yes-bytes k b)
 
 -- another key has another number

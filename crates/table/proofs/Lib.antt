@@ -10,3 +10,6 @@ pub mod KeyNumbers
 pub mod Sane
 pub mod Count
 pub mod Events
+pub mod Histories
+pub mod RunsOfCalls
+pub mod Refusals
