@@ -6,3 +6,10 @@ pub mod View
 pub mod Learning
 pub mod Forgetting
 pub mod Lowest
+pub mod KeyNumbers
+pub mod Sane
+pub mod Count
+pub mod Events
+pub mod Histories
+pub mod RunsOfCalls
+pub mod Refusals
