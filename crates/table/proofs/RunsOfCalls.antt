@@ -19,16 +19,18 @@ use Rattle.answers.specs.Answers.{Said, plain}
 use Rattle.history.specs.History.{mostKeys, Event, Learn, Forget, names, isEmpty, since, keys, answer, kept, setOf, Few}
 use Rattle.history.specs.Table.{number}
 use Rattle.history.proofs.Keys.{has, Once, has-keys, keys-once}
-use Rattle.history.proofs.Follows.{follows}
+use Rattle.history.proofs.Follows.{follows, nothing-is}
 use Rattle.history.proofs.Demand as demand
 use Rattle.table.specs.Layout.{keyNumber}
 use Rattle.table.specs.View.{mapIn, keyCount}
+use Rattle.table.specs.Next.{heldKeys}
 use Rattle.table.specs.Learn.{learnMessage, taught, learnt}
 use Rattle.table.specs.Forget.{forgotten}
 use Rattle.table.specs.Calls.{Call, Frame, Forgets, Reads, wordsAfter, run, eventsOf, happened, heardAnswer, frameAnswer, InBytes, Carried, AllCarried, Silent}
 use Rattle.table.proofs.Frames.{in-words, at-most-eight}
 use Rattle.table.proofs.Sane.{Sane}
-use Rattle.table.proofs.Count.{tableOf}
+use Rattle.table.proofs.Walk.{listed-map}
+use Rattle.table.proofs.Count.{tableOf, walk-count}
 use Rattle.table.proofs.Events.{Fits, looks, sane-event, event-after, event-answer}
 use Rattle.table.proofs.Histories.{eventWords, AllFit, call-events, call-fits, run-sane, run-calls}
 
@@ -52,6 +54,13 @@ module _ (cs : List Call) (ok : AllCarried cs) where
 
   pub at-most : keyCount (run cs) ≤ mostKeys
   at-most = omega (arith, count-is, demand.at-most (happened cs))
+
+  -- walking from first_key by next_key lists exactly these keys, each once and rising (Walk.antt)
+  pub listed-is : (k : Key) → InBytes k → has k (heldKeys (run cs)) ≡ not (isEmpty (setOf (happened cs) k))
+  listed-is k b = listed-map (run cs) k b ∙ rw (map-is k b, nothing-is (setOf (happened cs) k))
+
+  pub listed-count : length (heldKeys (run cs)) ≡ length (keys (kept (happened cs)))
+  listed-count = walk-count (run cs) (run-sane cs ok) ∙ count-is
 
   -- ---- what is answered
 
@@ -110,6 +119,15 @@ module _ (cs : List Call) (ok : AllCarried cs) where
 
     pub demand-forget : (k : Key) → InBytes k → forgotten (run cs) (keyNumber k) .answer ≡ plain (answer (happened cs) (Forget k))
     demand-forget k b = forget-answer k b ∙ ap (λ (h : List Event). plain (answer h (Forget k))) (demand.all-kept (happened cs) few)
+
+-- ---- freed room is used again: after a forget of a held key no frame is answered 9
+
+pub room-again : (cs : List Call) → AllCarried cs → (k : Key) → InBytes k → (setOf (happened cs) k ≡ [] → ⊥)
+    → (id len : ℕ) (d : List ℕ) → Carried (Frame id len d) → learnt (run (Forgets k ∷ cs)) id len d .answer .number ≡ 9 → ⊥
+unfolding happened
+room-again cs ok k b held id len d bytes q =
+    let (m, e, new, full) = nine (Forgets k ∷ cs) (b, ok) id len d bytes .0 q in
+    omega (arith, count-is (Forgets k ∷ cs) (b, ok), full, demand.one-less (happened cs) k held, demand.at-most (happened cs))
 
 -- ---- order, repeats and other keys don't count
 
