@@ -39,7 +39,7 @@ pub record Sound (n : ℕ) (transport : Bool) (ps : ℕ → Option Param) : Type
 
 module _ (n : ℕ) (transport : Bool) (ps : ℕ → Option Param) where
   ruled : Ruled n (rules everyone n ps)
-  ruled = (rule 2 _ refl, (rule 3 _ refl, (rule 4 _ refl, (rule 5 _ refl, (rule 6 _ refl, (rule 7 _ refl, tt))))))
+  ruled = (rule _ _ refl, (rule _ _ refl, (rule _ _ refl, (rule _ _ refl, (rule _ _ refl, (rule _ _ refl, tt))))))
     where
       rule : (k : ℕ) (t : ℕ → Bool) → leb 2 k && leb k 7 ≡ true → (2 ≤ k) × (k ≤ 7) × (lowest t n ≤ n)
       rule k t e = let (a, b) = and-eq-true-iff (leb 2 k) (leb k 7) .0 e in (leb-true 2 k a, leb-true k 7 b, lowest-most t n)
