@@ -1,20 +1,18 @@
 -- What a judgement tells: the position that it names, and all that holds of a usable map.
 -- Assumes nothing; of a dictionary, where widths are bounded, that it gives none above 32.
 use Prim.Native.Nat.{ℕ, zero, suc, _+_, _≤_, _<_}
-use mathlib.Core.Path.{_≡_, refl, sym, ap, _∙_}
-use mathlib.Core.Bool.{Bool, true, false, cond, _||_, _&&_, and-eq-true-iff}
+use mathlib.Core.Path.{_≡_, refl, ap, _∙_}
+use mathlib.Core.Bool.{Bool, true, false, cond, _&&_, and-eq-true-iff}
 use mathlib.Core.Option.{Option, none, some}
 use mathlib.Core.List.{List}
-use mathlib.Core.Logic.{⊎-elim, inl}
 use native.Mathlib.Numerals.{add-one}
 use native.Mathlib.Omega.{arith}
-use borrow.Author.Tests.{eqb-true, eqb-false, ltb-true, ltb-false, leb-true, leb-false, le-ltb, lt-leb, ne-eqb, eq-eqb}
-use lib.Dec.{eqb, ltb, leb}
+use borrow.Author.Tests.{eqb-true, eqb-false, ltb-false, leb-true, leb-false, le-ltb, lt-leb, ne-eqb}
+use lib.Dec.{leb}
 use lib.ListN.{length, getD}
-use Rattle.answers.specs.Answers.{Judged, at}
-use Rattle.message.specs.declared.Head.{Head}
+use Rattle.answers.specs.Answers.{at}
 use Rattle.message.specs.declared.Place.{Place}
-use Rattle.payload.specs.Bits.{any, lowest, tabulate}
+use Rattle.payload.specs.Bits.{lowest}
 use Rattle.payload.specs.Place.{endOf, sharesBit, endIn, endTo, bytesFor, sizeOf}
 use Rattle.payload.specs.Payload.{Apart}
 use Rattle.payload.specs.Calls.{unplacedIn}
@@ -23,9 +21,9 @@ use Rattle.payload.proofs.Bits.{length-tabulate, get-tabulate}
 use Rattle.payload.proofs.Place.{apart}
 use Rattle.payload.proofs.Placed.{none-unplaced}
 use Rattle.maps.specs.Maps.{Map, Nothing, Conflict, Held}
-use Rattle.maps.specs.Judge.{Param, withWidth, measured, isNone, spnAt, startAt, widthAt, widthIn, everyone, missing, unknown, repeated, notAbove, overlaps, beyond, wrongTransport, rules, firstNamed, sizeOver, judgeOver, judge, usable, countOf, paramsOf, spnsOf, startsOf, widthsOf, lengthOf}
-use Rattle.maps.proofs.Tests.{test, never}
-use Rattle.maps.proofs.Rules.{Passed, Ruled, Named, passed, all-passed, first-named, lowest-most}
+use Rattle.maps.specs.Judge.{Param, withWidth, measured, isNone, spnAt, startAt, widthAt, widthIn, everyone, notAbove, wrongTransport, rules, sizeOver, judgeOver, judge, usable, countOf, paramsOf, spnsOf, startsOf, widthsOf, lengthOf}
+use Rattle.maps.proofs.Tests.{never}
+use Rattle.maps.proofs.Rules.{Ruled, Named, passed, all-passed, first-named, lowest-most}
 
 -- all that the rules ask of n parameters and a transport flag
 pub record Sound (n : ℕ) (transport : Bool) (ps : ℕ → Option Param) : Type 0 where

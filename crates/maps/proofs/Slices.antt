@@ -1,7 +1,7 @@
 -- The judgement of what slices stand for, by the numbers that they hold. Assumes nothing.
 use Prim.Native.Nat.{ℕ, zero, suc, _<_, max}
 use mathlib.Core.Path.{_≡_, refl, sym, ap, ap₂, _∙_}
-use mathlib.Core.Bool.{Bool, true, false, cond}
+use mathlib.Core.Bool.{Bool, false, cond}
 use mathlib.Core.Option.{Option, none, some}
 use mathlib.Core.List.{List, [], _∷_}
 use native.Mathlib.Omega.{arith}

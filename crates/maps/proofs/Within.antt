@@ -8,7 +8,7 @@ use mathlib.Core.List.{List, [], _∷_}
 use native.Mathlib.Omega.{arith}
 use lib.Dec.{eqb, leb, ltb}
 use Rattle.answers.specs.Answers.{at}
-use Rattle.payload.specs.Bits.{any, lowest, tabulate}
+use Rattle.payload.specs.Bits.{any, tabulate}
 use Rattle.payload.specs.Place.{endOf, sharesBit, sizeOf}
 use Rattle.maps.specs.Judge.{Param, isNone, spnIn, startIn, widthIn, spnAt, startAt, widthAt, everyone, missing, unknown, repeated, notAbove, overlaps, beyond, wrongTransport, rules, firstNamed, sizeOver, judgeOver}
 use Rattle.maps.proofs.Rules.{lowest-equal}

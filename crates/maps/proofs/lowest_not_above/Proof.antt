@@ -1,5 +1,5 @@
 -- `lowest_not_above`: every start passed is above the one before it, so the position that stops the search is the lowest. Assumes nothing.
-use mathlib.Core.Path.{_≡_, refl, sym, ap₂, _∙_}
+use mathlib.Core.Path.{_≡_, ap₂, _∙_}
 use Prim.Native.Nat.{_-_, _≤_}
 use denote.Ref.{now}
 use borrow.Author.Needs.{needs}

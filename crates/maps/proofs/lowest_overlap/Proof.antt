@@ -1,6 +1,6 @@
 -- `lowest_overlap`: no parameter passed shares a bit with an earlier one, so the position that stops the search is the lowest.
 -- Assumes nothing.
-use mathlib.Core.Path.{_≡_, _∙_}
+use mathlib.Core.Path.{_≡_}
 use Prim.Native.Nat.{_-_, _≤_}
 use denote.Ref.{now}
 use borrow.Author.Needs.{needs}
