@@ -65,6 +65,10 @@ first-named n (r ∷ rs) last u l =
       none = λ h. absurd (⊎-elim (λ a. omega (arith, u .0)) (λ b. omega (arith, u .0)) h);
     }))
 
+-- a judgement that names no position
+pub nameless : (n k : ℕ) → k ≤ 8 → (2 ≤ k → k ≤ 7 → ⊥) → Named n (at k 0)
+nameless n k h out = record { number = h; some = λ l m. absurd (out l m); none = λ e. refl }
+
 -- ---- the lowest position
 
 pub lowest-most : (t : ℕ → Bool) (n : ℕ) → lowest t n ≤ n
