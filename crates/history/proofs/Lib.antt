@@ -1,0 +1,4 @@
+pub mod Since
+pub mod Keys
+pub mod Follows
+pub mod Demand

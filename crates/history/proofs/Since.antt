@@ -1,0 +1,46 @@
+-- What one event more makes of a key's collection, and of its map. Assumes nothing.
+use mathlib.Core.Path.{_≡_, refl, sym, ap, _∙_}
+use mathlib.Core.Bool.{Bool, true, false, cond}
+use mathlib.Core.List.{List, [], _∷_}
+use Rattle.words.specs.Runs as runs
+use Rattle.words.proofs.Runs.{fold-since}
+use Rattle.message.specs.declared.Key.{Key}
+use Rattle.message.specs.declared.Message.{Message}
+use Rattle.maps.specs.Maps.{sameKey, Map, Nothing, mapOf, learned}
+use Rattle.maps.proofs.Tests.{test, never, key-refl}
+use Rattle.maps.proofs.Maps.{map-more}
+use Rattle.history.specs.History.{Event, Learn, Forget, names, forgets, messages, since}
+use Rattle.history.specs.Table.{step}
+
+-- ---- the collection
+
+pub since-learn : (m : Message) (h : List Event) → since (Learn m ∷ h) (m .key) ≡ m ∷ since h (m .key)
+since-learn m h = rw (key-refl (m .key))
+
+pub since-forget : (k : Key) (h : List Event) → since (Forget k ∷ h) k ≡ []
+since-forget k h = rw (key-refl k)
+
+pub since-other : (e : Event) (h : List Event) (k : Key) → names k e ≡ false → since (e ∷ h) k ≡ since h k
+since-other e h k f = rw f
+
+-- ---- the map
+
+-- events without a forget make of nothing the map of their messages
+learns : (l : List Event) → runs.fold step Nothing (runs.since forgets l) ≡ mapOf (messages (runs.since forgets l))
+learns [] = refl
+learns (Learn m ∷ l) = ap (λ (M : Map). learned M m) (learns l) ∙ sym (map-more m (messages (runs.since forgets l)))
+learns (Forget k ∷ l) = refl
+
+again : (M : Map) (e : Event) → forgets e ≡ true → step M e ≡ Nothing
+again M (Learn m) t = never t refl
+again M (Forget k) t = refl
+
+-- a key's own events, one after another, make the map of its collection
+pub own-steps : (h : List Event) (k : Key) → runs.fold step Nothing (runs.only (names k) h) ≡ mapOf (since h k)
+own-steps h k = fold-since step Nothing forgets again (runs.only (names k) h) ∙ learns (runs.only (names k) h)
+
+-- so one event more is one step for the key that it names, and none for any other
+pub one-event : (e : Event) (h : List Event) (k : Key) → mapOf (since (e ∷ h) k) ≡ cond (names k e) (step (mapOf (since h k)) e) (mapOf (since h k))
+one-event e h k =
+    sym (own-steps (e ∷ h) k)
+    ∙ test (names k e) (λ t. rw t (ap (λ (M : Map). step M e) (own-steps h k))) (λ f. rw f (own-steps h k))

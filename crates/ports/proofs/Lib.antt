@@ -1,0 +1,5 @@
+pub mod Numbers
+pub mod Calls
+pub mod Lists
+pub mod Commands
+pub mod Examples

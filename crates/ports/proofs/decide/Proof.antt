@@ -1,0 +1,21 @@
+-- `ports::decide` meets its contract: 15, 1, or what the pair's row says of the frame's PGN.
+-- Assumes nothing.
+use Rattle.ports.proofs.Calls.{undecided, too-long, decides}
+use borrow.Author.Needs.{needs}
+use Rattle.ports.proofs.decide.Statement.{statement}
+use Rattle.ports.proofs.decide.Tie as tie
+
+returns : tie.Need-returns
+returns c = too-long _ _ _ _ (c .before .before .before .pair-of .ensures) (c .before .before .if1 .taken) (c .before .if2 .taken) (c .plainly .ensures)
+
+returns-2 : tie.Need-returns-2
+returns-2 c =
+    decides _ _ _ _ (c .before .before .before .before .before .before .before .before .before .pair-of .ensures) (c .before .before .before .before .before .before .before .before .if1 .taken) (c .before .before .before .before .before .before .before .if2 .left) (c .before .before .before .before .split .ensures) (c .before .before .before .pgn .ensures) (c .before .before .row-passes .ensures) (c .before .pick8 .ensures) (c .with-detail .ensures)
+
+returns-3 : tie.Need-returns-3
+returns-3 c = undecided _ _ _ _ (c .before .before .pair-of .ensures) (c .before .if1 .left) (c .plainly2 .ensures)
+
+pub decide-spec : {M : Type 1} → statement M
+decide-spec =
+    tie.close
+    (tie.spec (λ c κs. search needs) (λ c κs. search needs) returns (λ c. search needs) (λ c. search needs) (λ c. search needs) (λ c. search needs) (λ c. search needs) (λ c. search needs) (λ c κs. search needs) (λ c κs. search needs) (λ c κs. search needs) (λ c κs. search needs) (λ c. search needs) (λ c κs. search needs) returns-2 (λ c κs. search needs) returns-3)

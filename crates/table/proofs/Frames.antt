@@ -1,0 +1,33 @@
+-- What a frame's answer says for the table: a refusal leaves the words, and a message's numbers have their place in a row. Assumes nothing.
+use Prim.Native.Nat.{ℕ, _+_, _-_, _≤_, _<_}
+use mathlib.Core.Path.{_≡_, refl, sym, ap, _∙_}
+use mathlib.Core.Option.{Option, none, some}
+use mathlib.Core.List.{List}
+use native.Mathlib.Omega.{arith}
+use Rattle.answers.specs.Answers.{Outcome, outcome, plain}
+use Rattle.frame.specs.Frame.{fieldsOf}
+use Rattle.message.specs.declared.Message.{Message}
+use Rattle.message.specs.declared.Decoded.the-variants.{Refused, Taken}
+use Rattle.message.specs.Message.{Heard, heardOf, heard, wireOf}
+use Rattle.message.proofs.WellFormed.{WellFormed, heard-exactly, heard-message}
+use Rattle.table.specs.Layout.{positions}
+use Rattle.table.specs.Learn.{learnMessage, taught, learnt}
+
+module _ (t : List ℕ) (id len : ℕ) (d : List ℕ) where
+  pub refused : (n : ℕ) → heardOf (Refused n) ≡ heard id len d → outcome (plain n) t ≡ learnt t id len d
+  unfolding learnt
+  refused n e = ap (λ (h : Heard). taught t (h .number) (h .message)) e
+
+  pub taken : (m : Message) → heardOf (Taken m) ≡ heard id len d → learnMessage t m ≡ learnt t id len d
+  unfolding learnt
+  taken m e = ap (λ (h : Heard). taught t (h .number) (h .message)) e
+
+module _ (id len : ℕ) (d : List ℕ) (m : Message) (e : heardOf (Taken m) ≡ heard id len d) where
+  pub well : WellFormed id len (fieldsOf id) (wireOf d)
+  well = heard-exactly id len d .0 (sym (ap (λ (h : Heard). h .number) e))
+
+  pub position-fits : m .position ≤ positions
+  position-fits = rw (heard-message id len d m (sym (ap (λ (h : Heard). h .message) e)) .1) (omega (arith, well .count .1, well .position .1))
+
+  pub start-fits : m .place .start ≤ 14279
+  start-fits = rw (heard-message id len d m (sym (ap (λ (h : Heard). h .message) e)) .1) (omega (arith, well .start .1))
