@@ -6,7 +6,9 @@ use Rattle.answers.specs.Answers.{Said, saidOf}
 use Rattle.answers.specs.declared.Answer.{Answer}
 use Rattle.message.specs.declared.Key.{Key}
 use Rattle.firmware.specs.declared.Told.{Told}
+use Rattle.ask.specs.Ask.{Finding}
 use Rattle.firmware.specs.declared.Held.{Held}
+use Rattle.firmware.specs.declared.Located.{Located}
 
 -- an answer: its four fields are the four of `Said`
 abbrev pub saidTo : Told → Said
@@ -15,6 +17,10 @@ saidTo t = record { number = t .number; detail = t .detail; judgement = t .judge
 -- an answer of the rooms below, as C gets it
 abbrev pub toldOf : Answer → Told
 toldOf a = record { number = a .number; detail = a .detail; judgement = saidOf (a .judgement) .number; position = saidOf (a .judgement) .position }
+
+-- what finding gives
+abbrev pub findingTo : Located → Finding
+findingTo f = record { answer = saidTo (f .told); position = f .position; start = f .start; width = f .width }
 
 -- a held key: 1 and the key, or four times 0
 abbrev pub heldOf : Option Key → Held

@@ -6,10 +6,14 @@ ghost use Rattle.table.specs.Layout.{keyOf, keyNumber};
 ghost use Rattle.table.specs.Learn.{learnt, emptyTable};
 ghost use Rattle.table.specs.Forget.{forgotten};
 ghost use Rattle.table.specs.Next.{keyFound, firstKey, nextKey};
+ghost use Rattle.table.specs.View.{mapIn};
+ghost use Rattle.dictionary.specs.Dictionary.{widthOf};
+ghost use Rattle.ask.specs.Ask.{judgedBy, packedBy, readBy, foundIn, foundBy};
 ghost use Rattle.ports.specs.declared.Command.the-variants.{Add, Delete, Clear, SetMode};
 ghost use Rattle.ports.specs.Filters.{commanded, decided, freshWords};
-ghost use Rattle.firmware.specs.Told.{saidTo, toldOf, heldOf};
+ghost use Rattle.firmware.specs.Told.{saidTo, toldOf, heldOf, findingTo};
 use answers::Answer;
+use ask::Found;
 use table::Next;
 
 // An answer in 01's numbers: judgement and position are 0 but for 12 and for 0 of judging, where they are the detail.
@@ -31,6 +35,29 @@ fn in_c(a: Answer) -> Told
         detail: a.detail,
         judgement: answers::number_of(judgement) as u32,
         position: answers::position_of(judgement) as u32,
+    }
+}
+
+// What finding gives; position, start and width are 0 on a refusal.
+#[repr(C)]
+pub struct Located {
+    pub told: Told,
+    pub position: u32,
+    pub start: u32,
+    pub width: u32,
+}
+
+// What finding gives, as C gets it.
+fn found_in_c(found: Found) -> Located
+    ensures { λ r. ⌜ findingTo r ≡ foundIn found ⌝ }
+{
+    let answer = found.answer;
+    let told = in_c(answer);
+    Located {
+        told,
+        position: found.position as u32,
+        start: found.start,
+        width: found.width,
     }
 }
 
@@ -92,6 +119,54 @@ pub extern "C" fn yendrolf_table_forget(
     ensures { λ r. ⌜ outcome (saidTo r) (now (t .exit)) ≡ forgotten (now (t .entry)) (keyNumber (keyOf source destination k)) ⌝ }
 {
     in_c(table::forget(t, source, destination, k))
+}
+
+// Judges a key's map.
+#[no_mangle]
+pub extern "C" fn yendrolf_table_judge(t: &[u64; 1072], source: u8, destination: u8, k: u8) -> Told
+    ensures { λ r. ⌜ saidTo r ≡ judgedBy widthOf (mapIn (now (t .entry)) (keyOf source destination k)) ⌝ }
+{
+    in_c(ask::judge(t, source, destination, k))
+}
+
+// Packs numbers by a key's map.
+#[no_mangle]
+pub extern "C" fn yendrolf_table_pack(
+    t: &[u64; 1072],
+    source: u8,
+    destination: u8,
+    k: u8,
+    numbers: &[u32],
+    payload: &mut [u8],
+) -> Told
+    ensures { λ r. ⌜ outcome (saidTo r) (now (payload .exit))
+        ≡ packedBy widthOf (mapIn (now (t .entry)) (keyOf source destination k)) (now (numbers .entry)) (now (payload .entry)) ⌝ }
+{
+    in_c(ask::pack(t, source, destination, k, numbers, payload))
+}
+
+// Reads a payload by a key's map.
+#[no_mangle]
+pub extern "C" fn yendrolf_table_read(
+    t: &[u64; 1072],
+    source: u8,
+    destination: u8,
+    k: u8,
+    payload: &[u8],
+    numbers: &mut [u32],
+) -> Told
+    ensures { λ r. ⌜ outcome (saidTo r) (now (numbers .exit))
+        ≡ readBy widthOf (mapIn (now (t .entry)) (keyOf source destination k)) (now (payload .entry)) (now (numbers .entry)) ⌝ }
+{
+    in_c(ask::read(t, source, destination, k, payload, numbers))
+}
+
+// Finds an SPN in a key's map.
+#[no_mangle]
+pub extern "C" fn yendrolf_table_find(t: &[u64; 1072], source: u8, destination: u8, k: u8, spn: u32) -> Located
+    ensures { λ r. ⌜ findingTo r ≡ foundBy widthOf (mapIn (now (t .entry)) (keyOf source destination k)) spn ⌝ }
+{
+    found_in_c(ask::find(t, source, destination, k, spn))
 }
 
 // The lowest held key.
