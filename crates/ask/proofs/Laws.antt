@@ -82,7 +82,7 @@ module _ (widthOf : ℕ → ℕ) (m : Map) where
   unfolding packedBy
   pack-12 numbers out = (
     only-12 answerNumber (λ a. outcome a out) _ (λ a. refl)
-    (other (not (eqb (length numbers) (countOf m)) || ltb (length out) (lengthOf widthOf m)) (ltb 0 (tooWideIn ws numbers)) _ _ _),
+        (other (not (eqb (length numbers) (countOf m)) || ltb (length out) (lengthOf widthOf m)) (ltb 0 (tooWideIn ws numbers)) _ _ _),
     λ u. if-bad widthOf m (λ a. outcome a out) _ (u .0) (u .1),
   )
     where
@@ -281,8 +281,11 @@ module _ (widthOf : ℕ → ℕ) (m : Map) where
     unfolding foundBy positionOf
     find-one i l e =
         if-good widthOf m notFound _ u
-        ∙ rw (lowest-at (λ k. eqb (spnAt (paramsOf widthOf m) k) spn) (countOf m) i l
-        (λ k h. ne-eqb _ _ (λ q. usable-sound widthOf m u .once k i h l (q ∙ sym e))) (eq-eqb _ _ e), ne-eqb (suc i) 0 (omega arith))
+        ∙ rw (
+          lowest-at (λ k. eqb (spnAt (paramsOf widthOf m) k) spn) (countOf m) i l
+              (λ k h. ne-eqb _ _ (λ q. usable-sound widthOf m u .once k i h l (q ∙ sym e))) (eq-eqb _ _ e),
+          ne-eqb (suc i) 0 (omega arith),
+        )
 
     -- where no position has it, it is not found
     pub find-no : ((i : ℕ) → i < countOf m → spnAt (paramsOf widthOf m) i ≡ spn → ⊥) → foundBy widthOf m spn ≡ notFound (plain 18)
