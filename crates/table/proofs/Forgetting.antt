@@ -3,15 +3,15 @@ use Prim.Native.Nat.{ℕ, zero, suc, _≤_, _<_}
 use native.Mathlib.Omega.{arith}
 use native.Mathlib.Decide.{decLt, ℕ-discrete}
 use mathlib.Core.Path.{_≡_, refl, sym, ap, _∙_}
-use mathlib.Core.Bool.{Bool, true, false, cond}
+use mathlib.Core.Bool.{false, cond}
 use mathlib.Core.List.{List}
 use borrow.Author.Tests.{lt-ltb, le-ltb}
 use lib.ListN.{length, set}
 use Rattle.words.proofs.First.{first-none, first-same}
 use Rattle.words.proofs.Rows.{length-putAt}
 use Rattle.message.specs.declared.Key.{Key}
-use Rattle.maps.specs.Maps.{Map, Nothing}
-use Rattle.maps.proofs.Tests.{test, never}
+use Rattle.maps.specs.Maps.{Nothing}
+use Rattle.maps.proofs.Tests.{test}
 use Rattle.history.specs.History.{mostKeys}
 use Rattle.answers.specs.Answers.{outcome, plain}
 use Rattle.table.specs.Layout.{rowWords, tableWords, keyNumber, rowIs, rowOf, slotOf}
@@ -114,6 +114,13 @@ module _ (t : List ℕ) (key : ℕ) where
   pub not-held : mostKeys ≤ slotOf t key → forgotten t key ≡ outcome (plain 11) t
   unfolding forgotten
   not-held h = rw (le-ltb (slotOf t key) mostKeys h)
+
+pub forget-length : (t : List ℕ) → length t ≡ tableWords → (key : ℕ) → length (forgotten t key .memory) ≡ tableWords
+forget-length t long key = go (decLt (slotOf t key) mostKeys)
+  where
+    go : Dec (slotOf t key < mostKeys) → length (forgotten t key .memory) ≡ tableWords
+    go (yes h) = rw (held-before t key h) (freed-words key t long mostKeys (omega arith))
+    go (no h) = rw (not-held t key (omega arith)) long
 
 -- the key that is named is held no more
 pub forget-own : (t : List ℕ) → length t ≡ tableWords → (k : Key) → mapIn (forgotten t (keyNumber k) .memory) k ≡ Nothing

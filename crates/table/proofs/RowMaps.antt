@@ -2,21 +2,20 @@
 -- Assumes nothing.
 use Prim.Native.Nat.{ℕ, zero, suc, _+_, _-_, _*_, _/_, _%_, _^_, _≤_, _<_}
 use native.Mathlib.Omega.{arith}
-use native.Mathlib.Nat.{mod-lt}
 use mathlib.Core.Path.{_≡_, refl, sym, ap, _∙_, fun-ext}
-use mathlib.Core.Bool.{Bool, true, false, cond, not, _&&_, _||_, true≢false}
+use mathlib.Core.Bool.{Bool, true, false, cond, _||_}
 use mathlib.Core.Option.{Option, none, some, Option·some-injective}
 use mathlib.Core.List.{List}
 use borrow.Author.Tests.{eqb-true, eq-eqb, ne-eqb, eqb-false, le-leb, leb-true}
 use lib.Dec.{eqb, leb}
-use lib.ListN.{length, getD, set, replicate, length-set, length-replicate}
+use lib.ListN.{length, getD, set, replicate}
 use lib.Seq.{getD-set-same, getD-set-other}
 use Rattle.message.specs.declared.Head.{Head}
 use Rattle.message.specs.declared.Place.{Place}
 use Rattle.message.specs.declared.Message.{Message}
-use Rattle.maps.specs.Maps.{sameHead, samePlace, Map, Nothing, Conflict, Held, agrees, put, fits, learned}
+use Rattle.maps.specs.Maps.{sameHead, samePlace, Nothing, Conflict, Held, agrees, put, fits, learned}
 use Rattle.maps.proofs.Tests.{test, never, head-eq, head-refl, place-eq, place-refl}
-use Rattle.answers.specs.Answers.{Outcome, outcome, plain}
+use Rattle.answers.specs.Answers.{plain}
 use Rattle.history.specs.Table.{isConflict}
 use Rattle.table.specs.Layout.{positions, rowWords, bitOf, formNumber, cellNumber, keyNumber, stateWord, formWord, cellWord}
 use Rattle.table.specs.View.{headOf, placeOf, placeIn, rowMap}

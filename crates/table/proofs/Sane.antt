@@ -1,11 +1,11 @@
 -- What holds of the words of every run: no key is held twice, and every key is a key's number. Learning and forgetting keep it. Assumes nothing.
-use Prim.Native.Nat.{ℕ, _+_, _*_, _≤_, _<_}
+use Prim.Native.Nat.{ℕ, _*_, _<_}
 use native.Mathlib.Omega.{arith}
 use native.Mathlib.Decide.{decLt, ℕ-discrete}
 use mathlib.Core.Path.{_≡_, refl, sym, ap, _∙_}
-use mathlib.Core.Bool.{Bool, true, false, cond, true≢false}
+use mathlib.Core.Bool.{true}
 use mathlib.Core.List.{List}
-use lib.ListN.{length, getD, set, length-replicate}
+use lib.ListN.{length, set, length-replicate}
 use lib.Seq.{getD-set-same}
 use Rattle.words.specs.Slots.{Distinct}
 use Rattle.words.proofs.Slots.{put-distinct, not-else}
