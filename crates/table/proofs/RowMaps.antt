@@ -20,6 +20,7 @@ use Rattle.history.specs.Table.{isConflict}
 use Rattle.table.specs.Layout.{positions, rowWords, bitOf, formNumber, cellNumber, keyNumber, stateWord, formWord, cellWord}
 use Rattle.table.specs.View.{headOf, placeOf, placeIn, rowMap}
 use Rattle.table.specs.Learn.{rowFits, learnRow, newRow}
+use Rattle.table.proofs.View.{row-conflict}
 
 -- ---- a form
 
@@ -99,16 +100,6 @@ same-cell c x h = test (eqb c 0) (λ t. rw t) (λ n. rw n (go (eqb-false c 0 n))
       where
         same : c ≡ cellNumber x → old ≡ x
         same e = Option·some-injective _ _ (sym (place-back old (omega arith)) ∙ ap placeOf (cell-back c ne ∙ e) ∙ place-back x h)
-
--- ---- a row
-
-pub row-held : (r : List ℕ) → stateWord r ≡ 1 → rowMap r ≡ Held (headOf (formWord r)) (placeIn r)
-unfolding rowMap
-row-held r e = rw (eq-eqb (stateWord r) 1 e)
-
-pub row-conflict : (r : List ℕ) → (stateWord r ≡ 1 → ⊥) → rowMap r ≡ Conflict
-unfolding rowMap
-row-conflict r ne = rw (ne-eqb (stateWord r) 1 ne)
 
 -- ---- one message more
 
