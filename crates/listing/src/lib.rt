@@ -1,0 +1,163 @@
+// What a log taught, as text (01, "The listing program"). The log comes in chunks of any size, cut anywhere: `start`, then `feed` for each chunk, then
+// `finish`. The table is lent by the caller, and nothing else is kept but the tally.
+ghost use mathlib.Core.Path.{_≡_};
+ghost use mathlib.Core.List.{_++_};
+ghost use mathlib.Core.Bool.{cond};
+ghost use Prim.Native.Nat.{_+_, _≤_};
+ghost use lib.ListN.{length, take};
+ghost use Rattle.record.specs.Cut.{leftOf, over};
+ghost use Rattle.listing.specs.Lines.{isRefused, isOther, withAnswer};
+ghost use Rattle.listing.specs.Feed.{state, step, leftIn, padded, started, fed, cutOff, feeding};
+use table::WORDS;
+
+const SIZE: usize = 13;
+
+// How many records there were, how many were refused, and how many were of another PGN; each modulo 2^64.
+pub struct Counts {
+    pub records: u64,
+    pub refused: u64,
+    pub other: u64,
+}
+
+// What is kept from chunk to chunk: the counts, and the first `left` bytes of a record that is not whole yet, with 0 behind them.
+pub struct Tally {
+    pub counts: Counts,
+    pub left: usize,
+    pub carry: [u8; SIZE],
+}
+
+// ---- counts
+
+fn is_refused(number: u8) -> bool
+    ensures { λ r. ⌜ r ≡ isRefused number ⌝ }
+{
+    (number == 1) | ((3 <= number) & (number <= 9))
+}
+
+fn is_other(number: u8) -> bool
+    ensures { λ r. ⌜ r ≡ isOther number ⌝ }
+{
+    number == 2
+}
+
+fn bit(b: bool) -> u64
+    ensures { λ r. ⌜ r ≡ cond b 1 0 ⌝ }
+{
+    if b { 1 } else { 0 }
+}
+
+// One record more, that was answered with this number.
+fn with_answer(c: Counts, number: u8) -> Counts
+    ensures { λ r. ⌜ r ≡ withAnswer c number ⌝ }
+{
+    let records = std::num::wrapping_add_u64(c.records, 1);
+    let refused = std::num::wrapping_add_u64(c.refused, bit(is_refused(number)));
+    let other = std::num::wrapping_add_u64(c.other, bit(is_other(number)));
+    Counts {
+        records,
+        refused,
+        other,
+    }
+}
+
+// ---- records
+
+// One record: its frame is learned from, and the answer is counted. A frame that is refused by its identifier or its length costs no call of the table and
+// no look at its data.
+fn one(t: &mut [u64; WORDS], c: Counts, r: &[u8]) -> Counts
+    ensures { λ q. ⌜ state (now (t .exit)) q ≡ step (state (now (t .entry)) c) (now (r .entry)) ⌝ }
+{
+    let f = record::read(r);
+    let bad = message::frame_fault(f.id, f.len, frame::split(f.id));
+    if bad != 0 {
+        return with_answer(c, bad);
+    }
+    let bytes = f.bytes;
+    let a = table::learn(t, f.id, f.len, &bytes);
+    with_answer(c, a.number)
+}
+
+// The whole records of a slice, one after another.
+fn all(t: &mut [u64; WORDS], c: Counts, s: &[u8]) -> Counts
+    ensures { λ q. ⌜ state (now (t .exit)) q ≡ over step (state (now (t .entry)) c) (now (s .entry)) ⌝ }
+{
+    let mut counts = c;
+    let mut i = 0;
+    while SIZE <= s.len() - i {
+        let e = i + SIZE;
+        counts = one(t, counts, &s[i..e]);
+        i = e;
+    }
+    counts
+}
+
+// ---- chunks
+
+// The carried bytes with some more behind them, and 0 in the rest.
+fn joined(carry: &[u8], more: &[u8]) -> [u8; SIZE]
+    requires { ⌜ length (now carry) + length (now more) ≤ 13 ⌝ }
+    ensures { λ r. ⌜ r ≡ padded (now (carry .entry) ++ now (more .entry)) ⌝ }
+{
+    let mut b = [0u8; SIZE];
+    splice::copy_at(&mut b, 0, carry);
+    splice::copy_at(&mut b, carry.len(), more);
+    b
+}
+
+// How many bytes a tally carries: 13 or more, as no tally has that these calls made, counts as 0.
+fn left_in(left: usize) -> usize
+    ensures { λ r. ⌜ (r ≡ leftIn left) × (r ≤ 12) ⌝ }
+{
+    if left < SIZE { left } else { 0 }
+}
+
+// A chunk that starts with a record: its whole records, and the bytes that are left.
+fn rest(t: &mut [u64; WORDS], c: Counts, s: &[u8]) -> Tally
+    ensures { λ r. ⌜ fed (now (t .exit)) r ≡ cutOff (over step (state (now (t .entry)) c) (now (s .entry))) (leftOf (now (s .entry))) ⌝ }
+{
+    let counts = all(t, c, s);
+    let left = s.len() % SIZE;
+    let from = s.len() - left;
+    let carry = joined(b"", &s[from..]);
+    Tally {
+        counts,
+        left,
+        carry,
+    }
+}
+
+// Nothing read yet.
+pub fn start() -> Tally
+    ensures { λ r. ⌜ r ≡ started ⌝ }
+{
+    Tally {
+        counts: Counts {
+            records: 0,
+            refused: 0,
+            other: 0,
+        },
+        left: 0,
+        carry: [0; SIZE],
+    }
+}
+
+// Takes the next chunk of a log, of any size and cut anywhere.
+pub fn feed(t: &mut [u64; WORDS], s: Tally, chunk: &[u8]) -> Tally
+    ensures { λ r. ⌜ fed (now (t .exit)) r ≡ feeding (now (t .entry)) s (now (chunk .entry)) ⌝ }
+{
+    let carry = s.carry;
+    let counts = s.counts;
+    let n = left_in(s.left);
+    let lacks = SIZE - n;
+    if chunk.len() < lacks {
+        let carry = joined(&carry[..n], chunk);
+        return Tally {
+            counts,
+            left: n + chunk.len(),
+            carry,
+        };
+    }
+    let record = joined(&carry[..n], &chunk[..lacks]);
+    let counts = one(t, counts, &record);
+    rest(t, counts, &chunk[lacks..])
+}
