@@ -130,27 +130,27 @@ def length_of(placed):
     return max([8] + [(start + width + 7) // 8 for start, width in placed])
 
 
-def judge_map(n, transport, places, widths=WIDTHS):
-    """The judgement and its position of a map without a conflict: places[p - 1] is the (SPN, start) of position p, or
-    None where it is missing. 'The first of these that applies, with its lowest position.'"""
-    positions = range(1, n + 1)
-    spn = lambda p: places[p - 1][0]
-    start = lambda p: places[p - 1][1]
-    width = lambda p: widths[spn(p)]
+def judge_map(n, transport, rows):
+    """The judgement and its position of a map without a conflict: rows[p - 1] is the (SPN, start, width) of position p, with
+    width 0 where the dictionary hasn't the SPN, or None where the position is missing. 'The first of these that applies,
+    with its lowest position.'"""
+    spn = lambda p: rows[p - 1][0]
+    start = lambda p: rows[p - 1][1]
+    width = lambda p: rows[p - 1][2]
     bits = lambda p: set(taken_bits(start(p), width(p)))
     rules = [
-        (2, lambda p: places[p - 1] is None),
-        (3, lambda p: spn(p) not in widths),
+        (2, lambda p: rows[p - 1] is None),
+        (3, lambda p: width(p) == 0),
         (4, lambda p: any(spn(q) == spn(p) for q in range(1, p))),
         (5, lambda p: p > 1 and not start(p) > start(p - 1)),
         (6, lambda p: any(bits(q) & bits(p) for q in range(1, p))),
         (7, lambda p: start(p) + width(p) > 14280),
     ]
     for number, applies in rules:
-        for p in positions:
+        for p in range(1, n + 1):
             if applies(p):
                 return number, p
-    longer = length_of([(start(p), width(p)) for p in positions]) > 8
+    longer = length_of([row[1:] for row in rows[:n]]) > 8
     if (transport == 1) != longer:
         return 8, 0
     return 0, 0
@@ -158,7 +158,7 @@ def judge_map(n, transport, places, widths=WIDTHS):
 
 def map_of(messages):
     """The map of a set without a contradiction: n, the transport flag, and what stands at each position."""
-    said = {m.position: (m.spn, m.start) for m in messages}
+    said = {m.position: (m.spn, m.start, WIDTHS.get(m.spn, 0)) for m in messages}
     n, transport = messages[0].n, messages[0].transport
     return n, transport, [said.get(p) for p in range(1, n + 1)]
 
@@ -247,8 +247,8 @@ class Box:
         judged = judge_set(self.sets[key])
         if judged != (0, 0):
             return Answer(12, 0, *judged), None
-        n, transport, places = map_of(self.sets[key])
-        return None, [(spn, start, WIDTHS[spn]) for spn, start in places]
+        n, transport, rows = map_of(self.sets[key])
+        return None, rows
 
     def pack(self, key, numbers, buffer):
         refused, rows = self.usable(key)

@@ -1,2 +1,6 @@
 pub mod Tests
 pub mod Maps
+pub mod Rules
+pub mod Judged
+pub mod Search
+pub mod Slices

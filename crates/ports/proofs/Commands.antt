@@ -179,10 +179,12 @@ keyed = record {
 -- the words mean, of each pair, what its own calls made of a fresh pair
 pub pair-is : (h : List Call) (f t : ℕ) → twoPorts f t ≡ true → pairAt (wordsAfter h) f t ≡ pairAfter h f t
 pair-is h f t y =
-    own-events _ _ _ _ keyed h (record { from = f; to = t; good = y }) ∙ ap (λ (l : List Call). fold (λ p c. asked p (c .ask)) freshPair (only (names f t) l)) (kept-all _ (λ g c. refl) h)
+    own-events _ _ _ _ keyed h (record { from = f; to = t; good = y })
+    ∙ ap (λ (l : List Call). fold (λ p c. asked p (c .ask)) freshPair (only (names f t) l)) (kept-all _ (λ g c. refl) h)
 
 -- THE THEOREM: the answer to any call after any run
-pub answered : (h : List Call) (c : Call) → called (wordsAfter h) c .answer ≡ cond (twoPorts (c .from) (c .to)) (answerOf (pairAfter h (c .from) (c .to)) (c .ask)) (plain 15)
+pub answered : (h : List Call) (c : Call)
+    → called (wordsAfter h) c .answer ≡ cond (twoPorts (c .from) (c .to)) (answerOf (pairAfter h (c .from) (c .to)) (c .ask)) (plain 15)
 answered h c =
     call-answer (wordsAfter h) (run-sound h) (c .from) (c .to) (c .ask)
     ∙ test (twoPorts (c .from) (c .to)) (λ y. rw (y, pair-is h (c .from) (c .to) y)) (λ n. rw n)

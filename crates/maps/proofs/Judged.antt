@@ -1,0 +1,196 @@
+-- What a judgement tells: the position that it names, and all that holds of a usable map.
+-- Assumes nothing; of a dictionary, where widths are bounded, that it gives none above 32.
+use Prim.Native.Nat.{ℕ, zero, suc, _+_, _≤_, _<_}
+use mathlib.Core.Path.{_≡_, refl, sym, ap, _∙_}
+use mathlib.Core.Bool.{Bool, true, false, cond, _||_, _&&_, and-eq-true-iff}
+use mathlib.Core.Option.{Option, none, some}
+use mathlib.Core.List.{List}
+use mathlib.Core.Logic.{⊎-elim, inl}
+use native.Mathlib.Numerals.{add-one}
+use native.Mathlib.Omega.{arith}
+use borrow.Author.Tests.{eqb-true, eqb-false, ltb-true, ltb-false, leb-true, leb-false, le-ltb, lt-leb, ne-eqb, eq-eqb}
+use lib.Dec.{eqb, ltb, leb}
+use lib.ListN.{length, getD}
+use Rattle.answers.specs.Answers.{Judged, at}
+use Rattle.message.specs.declared.Head.{Head}
+use Rattle.message.specs.declared.Place.{Place}
+use Rattle.payload.specs.Bits.{any, lowest, tabulate}
+use Rattle.payload.specs.Place.{endOf, sharesBit, endIn, endTo, bytesFor, sizeOf}
+use Rattle.payload.specs.Payload.{Apart}
+use Rattle.payload.specs.Calls.{unplacedIn}
+use Rattle.payload.proofs.Below.{any-each, any-none, lowest-each, lowest-none}
+use Rattle.payload.proofs.Bits.{length-tabulate, get-tabulate}
+use Rattle.payload.proofs.Place.{apart}
+use Rattle.payload.proofs.Placed.{none-unplaced}
+use Rattle.maps.specs.Maps.{Map, Nothing, Conflict, Held}
+use Rattle.maps.specs.Judge.{Param, withWidth, measured, isNone, spnAt, startAt, widthAt, widthIn, everyone, missing, unknown, repeated, notAbove, overlaps, beyond, wrongTransport, rules, firstNamed, sizeOver, judgeOver, judge, usable, countOf, paramsOf, spnsOf, startsOf, widthsOf, lengthOf}
+use Rattle.maps.proofs.Tests.{test, never}
+use Rattle.maps.proofs.Rules.{Passed, Ruled, Named, passed, all-passed, first-named, lowest-most}
+
+-- all that the rules ask of n parameters and a transport flag
+pub record Sound (n : ℕ) (transport : Bool) (ps : ℕ → Option Param) : Type 0 where
+  pub present : (i : ℕ) → i < n → isNone (ps (suc i)) ≡ false
+  pub known : (i : ℕ) → i < n → 1 ≤ widthAt ps i
+  pub once : (i j : ℕ) → i < j → j < n → spnAt ps i ≡ spnAt ps j → ⊥
+  pub rises : (i : ℕ) → i + 1 < n → startAt ps i < startAt ps (i + 1)
+  pub apart : (i j : ℕ) → i < j → j < n → sharesBit (startAt ps i) (widthAt ps i) (startAt ps j) (widthAt ps j) ≡ false
+  pub within : (i : ℕ) → i < n → endOf (startAt ps i) (widthAt ps i) ≤ 14280
+  pub flag : wrongTransport transport (sizeOver n ps) ≡ false
+
+module _ (n : ℕ) (transport : Bool) (ps : ℕ → Option Param) where
+  ruled : Ruled n (rules everyone n ps)
+  ruled = (rule 2 _ refl, (rule 3 _ refl, (rule 4 _ refl, (rule 5 _ refl, (rule 6 _ refl, (rule 7 _ refl, tt))))))
+    where
+      rule : (k : ℕ) (t : ℕ → Bool) → leb 2 k && leb k 7 ≡ true → (2 ≤ k) × (k ≤ 7) × (lowest t n ≤ n)
+      rule k t e = let (a, b) = and-eq-true-iff (leb 2 k) (leb k 7) .0 e in (leb-true 2 k a, leb-true k 7 b, lowest-most t n)
+
+  last-named : (b : Bool) → Named n (at (cond b 8 0) 0)
+  last-named true = record { number = omega arith; some = λ l m. absurd (omega arith); none = λ h. refl }
+  last-named false = record { number = omega arith; some = λ l m. absurd (omega arith); none = λ h. refl }
+
+  -- 2 to 7 name a position from 1 to n; 0, 1 and 8 name none
+  pub judged-named : Named n (judgeOver n transport ps)
+  unfolding judgeOver
+  judged-named = first-named n (rules everyone n ps) _ ruled (last-named (wrongTransport transport (sizeOver n ps)))
+
+  last-zero : (b : Bool) → _≡_ {A = ℕ} (cond b 8 0) 0 → b ≡ false
+  last-zero true e = absurd (omega arith)
+  last-zero false e = refl
+
+  -- judgement 0 is given only where every rule is met
+  pub sound : judgeOver n transport ps .number ≡ 0 → Sound n transport ps
+  unfolding judgeOver notAbove
+  sound e =
+      let (u, l) = all-passed n (rules everyone n ps) _ ruled e in
+      record {
+        present = lowest-each _ n (u .0);
+        known = λ i h. let z = eqb-false (widthAt ps i) 0 (lowest-each _ n (u .1 .0) i h) in omega (arith, z);
+        once = λ i j h k. eqb-false _ _ (any-each _ j (lowest-each _ n (u .1 .1 .0) j k) i h);
+        rises = λ i h. rw (add-one i) (leb-false _ _ (lowest-each (notAbove everyone (startAt ps)) n (u .1 .1 .1 .0) (suc i) (rw add-one at h)));
+        apart = λ i j h k. any-each _ j (lowest-each _ n (u .1 .1 .1 .1 .0) j k) i h;
+        within = λ i h. ltb-false _ _ (lowest-each _ n (u .1 .1 .1 .1 .1 .0) i h);
+        flag = last-zero _ l;
+      }
+
+  -- and it is given wherever every rule is met
+  pub sound-usable : Sound n transport ps → judgeOver n transport ps ≡ at 0 0
+  unfolding judgeOver notAbove
+  sound-usable s =
+      passed (rules everyone n ps) _ (
+        lowest-none _ n (s .present),
+        (
+          lowest-none _ n (λ i h. ne-eqb (widthAt ps i) 0 (λ e. omega (arith, s .known i h))),
+          (
+            lowest-none _ n (λ j k. any-none _ j (λ i h. ne-eqb _ _ (s .once i j h k))),
+            (
+              lowest-none _ n above,
+              (
+                lowest-none _ n (λ j k. any-none _ j (λ i h. s .apart i j h k)),
+                (lowest-none _ n (λ i h. le-ltb _ _ (s .within i h)), tt),
+              ),
+            ),
+          ),
+        ),
+      )
+      ∙ ap (λ (b : Bool). at (cond b 8 0) 0) (s .flag)
+    where
+      above : (i : ℕ) → i < n → notAbove everyone (startAt ps) i ≡ false
+      above zero h = refl
+      above (suc i) h = lt-leb _ _ (rw add-one at (s .rises i (rw add-one h)))
+
+-- ---- of a map
+
+-- the flag of a held map
+abbrev pub transportOf : Map → Bool
+transportOf Nothing = false
+transportOf Conflict = false
+transportOf (Held h places) = h .transport
+
+-- sets with the same map have the same judgement, whatever the dictionary
+pub same-judgement : (widthOf : ℕ → ℕ) (l m : Map) → l ≡ m → judge widthOf l ≡ judge widthOf m
+same-judgement widthOf l m e = ap (judge widthOf) e
+
+pub judge-named : (widthOf : ℕ → ℕ) (m : Map) → Named (countOf m) (judge widthOf m)
+judge-named widthOf Nothing = record { number = omega arith; some = λ l m. absurd (omega arith); none = λ h. refl }
+judge-named widthOf Conflict = record { number = omega arith; some = λ l m. absurd (omega arith); none = λ h. refl }
+judge-named widthOf (Held h places) = judged-named (h .n) (h .transport) (measured widthOf places)
+
+-- "usable" is judgement 0, and that names no position
+pub usable-judged : (widthOf : ℕ → ℕ) (m : Map) → usable widthOf m ≡ true → judge widthOf m ≡ at 0 0
+usable-judged widthOf Nothing e = never e refl
+usable-judged widthOf Conflict e = never e refl
+usable-judged widthOf (Held h places) e =
+    sound-usable (h .n) (h .transport) _ (sound (h .n) (h .transport) _ (eqb-true (judge widthOf (Held h places) .number) 0 e))
+
+module _ (widthOf : ℕ → ℕ) where
+  pub usable-sound : (m : Map) → usable widthOf m ≡ true → Sound (countOf m) (transportOf m) (paramsOf widthOf m)
+  usable-sound Nothing e = never e refl
+  usable-sound Conflict e = never e refl
+  usable-sound (Held h places) e = sound (h .n) (h .transport) _ (eqb-true (judge widthOf (Held h places) .number) 0 e)
+
+  module _ (m : Map) where
+    -- the lists by index
+    pub spn-at : (i : ℕ) → i < countOf m → getD (spnsOf widthOf m) i 0 ≡ spnAt (paramsOf widthOf m) i
+    spn-at i h = get-tabulate _ (countOf m) i h
+
+    pub start-at : (i : ℕ) → i < countOf m → getD (startsOf widthOf m) i 0 ≡ startAt (paramsOf widthOf m) i
+    start-at i h = get-tabulate _ (countOf m) i h
+
+    pub width-at : (i : ℕ) → i < countOf m → getD (widthsOf widthOf m) i 0 ≡ widthAt (paramsOf widthOf m) i
+    width-at i h = get-tabulate _ (countOf m) i h
+
+    pub lists-length : (length (spnsOf widthOf m) ≡ countOf m) × (length (startsOf widthOf m) ≡ countOf m) × (length (widthsOf widthOf m) ≡ countOf m)
+    lists-length = (length-tabulate _ (countOf m), length-tabulate _ (countOf m), length-tabulate _ (countOf m))
+
+-- the widths of a map are its dictionary's
+pub width-most : (widthOf : ℕ → ℕ) → ((x : ℕ) → widthOf x ≤ 32) → (m : Map) (i : ℕ) → widthAt (paramsOf widthOf m) i ≤ 32
+width-most widthOf most Nothing i = omega arith
+width-most widthOf most Conflict i = omega arith
+width-most widthOf most (Held h places) i = one (places (suc i))
+  where
+    one : (x : Option Place) → widthIn (withWidth widthOf x) ≤ 32
+    one none = omega arith
+    one (some x) = most (x .spn)
+
+ends-most : (ss ws : List ℕ) (b n : ℕ) → ((i : ℕ) → i < n → endIn ss ws i ≤ b) → endTo ss ws n ≤ b
+unfolding endTo
+ends-most ss ws b zero h = omega arith
+ends-most ss ws b (suc n) h = omega (arith, ends-most ss ws b n (λ i l. h i (omega arith)), h n (omega arith))
+
+-- ---- what payload's laws ask, of a usable map
+module _ (widthOf : ℕ → ℕ) (m : Map) (u : usable widthOf m ≡ true) where
+  its : Sound (countOf m) (transportOf m) (paramsOf widthOf m)
+  its = usable-sound widthOf m u
+
+  -- no two of its bits have one place, and every place lies in its L bytes
+  pub usable-apart : Apart (startsOf widthOf m) (widthsOf widthOf m)
+  usable-apart =
+      apart (startsOf widthOf m) (widthsOf widthOf m)
+      (λ i j h k. let l : j < countOf m = rw (length-tabulate (startAt (paramsOf widthOf m)) (countOf m)) at k in
+      rw (start-at widthOf m i (omega arith), width-at widthOf m i (omega arith), start-at widthOf m j l, width-at widthOf m j l)
+      (its .apart i j h l))
+
+  -- each ends at or before bit 14,280
+  pub usable-end : (i : ℕ) → i < countOf m → endIn (startsOf widthOf m) (widthsOf widthOf m) i ≤ 14280
+  usable-end i h = rw (start-at widthOf m i h, width-at widthOf m i h) (its .within i h)
+
+  -- "L is at most 1,785", and at least 8
+  pub usable-length : (8 ≤ lengthOf widthOf m) × (lengthOf widthOf m ≤ 1785)
+  unfolding sizeOf bytesFor
+  usable-length =
+      let e = ends-most (startsOf widthOf m) (widthsOf widthOf m) 14280 (countOf m) usable-end in
+      let f : endTo (startsOf widthOf m) (widthsOf widthOf m) (length (startsOf widthOf m)) ≤ 14280 = rw (length-tabulate (startAt (paramsOf widthOf m)) (countOf m)) e in
+      (omega arith, omega (arith, f))
+
+  module _ (most : (x : ℕ) → widthOf x ≤ 32) where
+    -- each has 1 to 32 bits
+    pub usable-width : (i : ℕ) → i < countOf m → (1 ≤ getD (widthsOf widthOf m) i 0) × (getD (widthsOf widthOf m) i 0 ≤ 32)
+    usable-width i h = rw (width-at widthOf m i h) (its .known i h, width-most widthOf most m i)
+
+    -- so packing and reading a usable map of at most 64 positions never finds one without a place
+    pub usable-placed : countOf m ≤ 64 → unplacedIn (startsOf widthOf m) (widthsOf widthOf m) ≡ 0
+    usable-placed l =
+        none-unplaced (startsOf widthOf m) (widthsOf widthOf m)
+        (λ i h. let k : i < countOf m = rw (length-tabulate (startAt (paramsOf widthOf m)) (countOf m)) at h in
+        let (a, b) = usable-width i k in
+        record { position = omega arith; some = a; most = b; ends = usable-end i k })

@@ -1,0 +1,49 @@
+-- The loop ends, and goes no further than the list. Assumes nothing.
+use mathlib.Core.Path.{_≡_, refl, sym}
+use Prim.Native.Nat.{_-_, _≤_}
+use native.Mathlib.Omega.{arith}
+use borrow.Author.Needs.{needs}
+use lib.ListN.{length, length-set}
+use lib.Seq.{length-take-le}
+use Rattle.vectors.proofs.lines.words.Statement.{statement}
+use Rattle.vectors.proofs.lines.words.Tie as tie
+
+abbrev Inv-loop : tie.InvT-loop
+Inv-loop n list₀ most i₀ list i = (i ≤ length list₀) × (length list ≡ length list₀)
+
+abbrev μ-loop : tie.MeasureT-loop
+μ-loop n list₀ most i₀ list i = length list₀ - i
+
+loop-holds : tie.Need-loop-holds Inv-loop μ-loop
+loop-holds c = (search needs, refl)
+
+loop-again : tie.Need-loop-again Inv-loop μ-loop
+loop-again c = (search needs, simp length-set (c .before .before .before .loop .inv .1))
+
+returns : tie.Need-returns Inv-loop μ-loop
+returns c =
+    let l = c .before .before .loop in
+    let h : l .i ≤ length (l .list) = omega (arith, l .inv .0, l .inv .1) in
+    (h, sym (length-take-le (l .i) (l .list) h))
+
+returns-2 : tie.Need-returns-2 Inv-loop μ-loop
+returns-2 c =
+    let l = c .before .loop in
+    let h : l .i ≤ length (l .list) = omega (arith, l .inv .0, l .inv .1) in
+    (h, sym (length-take-le (l .i) (l .list) h))
+
+pub words-spec : {M : Type 1} → statement M
+words-spec =
+    tie.close
+    (tie.spec
+    Inv-loop
+    μ-loop
+    loop-holds
+    (λ c κs. tt) (λ c. search needs) (λ c. search needs)
+    (λ c. search needs)
+    (λ c. search needs)
+    loop-again
+    (λ c. search needs)
+    returns
+    (λ c. search needs)
+    returns-2)
