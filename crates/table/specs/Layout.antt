@@ -2,7 +2,7 @@
 -- Of a row: word 0 its state (0 free, 1 held, any other: in conflict), word 1 the key's number, word 2 the form (n and the two flags), word 2 + p the
 -- cell of position p (0 nothing, else SPN and start).
 -- Assumes nothing.
-use Prim.Native.Nat.{ℕ, _+_, _*_}
+use Prim.Native.Nat.{ℕ, _+_, _*_, _/_, _%_}
 use mathlib.Core.Bool.{Bool, true, false, cond, not, _&&_}
 use mathlib.Core.List.{List}
 use lib.Dec.{eqb}
@@ -33,9 +33,16 @@ tableWords = 1072
 abbrev pub keyOf : ℕ → ℕ → ℕ → Key
 keyOf source destination k = record { source = source; destination = destination; k = k }
 
--- a key as one number: rising keys are rising numbers
+-- a key as one number: rising keys are rising numbers, and all are below 2^24
 abbrev pub keyNumber : Key → ℕ
 keyNumber k = k .source * 65536 + k .destination * 256 + k .k
+
+abbrev pub keyNumbers : ℕ
+keyNumbers = 16777216
+
+-- the key that has a number
+abbrev pub keyNamed : ℕ → Key
+keyNamed x = keyOf (x / 65536) (x / 256 % 256) (x % 256)
 
 abbrev pub bitOf : Bool → ℕ
 bitOf b = cond b 1 0

@@ -2,7 +2,7 @@
 // that no call can be lent too few; whatever the words hold, each call has its defined answer.
 ghost use mathlib.Core.Path.{_≡_};
 ghost use mathlib.Core.Bool.{cond, not, _&&_};
-ghost use Prim.Native.Nat.{_≤_};
+ghost use Prim.Native.Nat.{_+_, _≤_};
 ghost use lib.Dec.{eqb, leb, ltb};
 ghost use lib.ListN.{length, replicate};
 ghost use Rattle.answers.specs.Answers.{inNumbers, plain, outcome};
@@ -10,6 +10,7 @@ ghost use Rattle.history.specs.History.{mostKeys};
 ghost use Rattle.table.specs.Layout.{tableWords, rowWords, positions, keyOf, keyNumber, bitOf, formNumber, cellNumber, wordsAre, slotOf, freeSlot};
 ghost use Rattle.table.specs.Learn.{rowFits, learnRow, newRow, learnMessage, learnt, emptyTable};
 ghost use Rattle.table.specs.Forget.{freeTo, forgotten};
+ghost use Rattle.table.specs.Next.{keyFound, lowestFrom, keyAt, firstKey, nextKey};
 use answers::Answer;
 use message::Decoded;
 use message::Head;
@@ -22,6 +23,14 @@ pub const WORDS: usize = 1072;
 const ROWS: usize = 16;
 
 const ROW_WORDS: usize = 67;
+
+const KEY_NUMBERS: u64 = 16777216;
+
+// The next held key, or none.
+pub enum Next {
+    Found(Key),
+    NoMore,
+}
 
 // ---- numbers of a message
 
@@ -239,4 +248,60 @@ pub fn forget(t: &mut [u64; WORDS], source: u8, destination: u8, k: u8) -> Answe
     ensures { λ r. ⌜ outcome (inNumbers r) (now (t .exit)) ≡ forgotten (now (t .entry)) (keyNumber (keyOf source destination k)) ⌝ }
 {
     answers::plainly(forget_in(t, key_number(source, destination, k)))
+}
+
+// ---- the keys in rising order
+
+// The key word of a row that is not free, where it lies from `from` on and below `best`; else `best`.
+fn nearer(state: u64, word: u64, from: u64, best: u64) -> u64
+    ensures { λ r. ⌜ r ≡ cond (not (eqb state 0) && leb from word && ltb word best) word best ⌝ }
+{
+    if (state != 0) & (from <= word) & (word < best) {
+        word
+    } else {
+        best
+    }
+}
+
+// The lowest number of a held key, from a number on, or 2^24.
+fn lowest_from(t: &[u64], from: u64) -> u64
+    requires { ⌜ length (now t) ≡ tableWords ⌝ }
+    ensures { λ r. ⌜ r ≡ lowestFrom (now (t .entry)) from ⌝ }
+{
+    let mut best = KEY_NUMBERS;
+    let mut i = 0;
+    while i < ROWS {
+        let a = i * ROW_WORDS;
+        best = nearer(t[a], t[a + 1], from, best);
+        i += 1;
+    }
+    best
+}
+
+// The key with a number, if it is one.
+fn key_at(x: u64) -> Next
+    ensures { λ r. ⌜ keyFound r ≡ keyAt x ⌝ }
+{
+    if x < KEY_NUMBERS {
+        return Next::Found(Key {
+            source: (x / 65536) as u8,
+            destination: (x / 256 % 256) as u8,
+            k: (x % 256) as u8,
+        });
+    }
+    Next::NoMore
+}
+
+// The lowest held key.
+pub fn first_key(t: &[u64; WORDS]) -> Next
+    ensures { λ r. ⌜ keyFound r ≡ firstKey (now (t .entry)) ⌝ }
+{
+    key_at(lowest_from(t, 0))
+}
+
+// The lowest held key above the given one.
+pub fn next_key(t: &[u64; WORDS], source: u8, destination: u8, k: u8) -> Next
+    ensures { λ r. ⌜ keyFound r ≡ nextKey (now (t .entry)) (keyOf source destination k) ⌝ }
+{
+    key_at(lowest_from(t, key_number(source, destination, k) + 1))
 }

@@ -1,0 +1,33 @@
+-- What the words hold of a key, by the row that holds it: what every call that asks the table goes by. On any words. Assumes nothing.
+use Prim.Native.Nat.{ℕ, _≤_, _<_}
+use mathlib.Core.Path.{_≡_, refl, sym, ap, _∙_}
+use mathlib.Core.Bool.{Bool, true, false, cond}
+use mathlib.Core.List.{List}
+use borrow.Author.Tests.{lt-ltb, le-ltb}
+use lib.Dec.{ltb}
+use Rattle.words.specs.Slots.{Held, nothing, held, view}
+use Rattle.message.specs.declared.Key.{Key}
+use Rattle.maps.specs.Maps.{Map, Nothing}
+use Rattle.maps.proofs.Tests.{test}
+use Rattle.history.specs.History.{mostKeys}
+use Rattle.table.specs.Layout.{keyNumber, rowIs, rowOf, slotOf}
+use Rattle.table.specs.View.{rowMap, mapIn}
+
+-- a row holds the key: its map is that row's
+pub map-at : (t : List ℕ) (k : Key) → slotOf t (keyNumber k) < mostKeys → mapIn t k ≡ rowMap (rowOf t (slotOf t (keyNumber k)))
+unfolding mapIn
+map-at t k h = rw (lt-ltb (slotOf t (keyNumber k)) mostKeys h)
+
+-- no row does
+pub map-none : (t : List ℕ) (k : Key) → mostKeys ≤ slotOf t (keyNumber k) → mapIn t k ≡ Nothing
+unfolding mapIn
+map-none t k h = rw (le-ltb (slotOf t (keyNumber k)) mostKeys h)
+
+-- the same by the view of a table of slots
+abbrev pub heldMap : Held (List ℕ) → Map
+heldMap nothing = Nothing
+heldMap (held r) = rowMap r
+
+pub map-view : (t : List ℕ) (k : Key) → mapIn t k ≡ heldMap (view rowIs mostKeys (rowOf t) (keyNumber k))
+unfolding mapIn slotOf view
+map-view t k = test (ltb (slotOf t (keyNumber k)) mostKeys) (λ h. rw h) (λ n. rw n)
