@@ -1,2 +1,3 @@
 pub mod Records
 pub mod Chunks
+pub mod Pieces

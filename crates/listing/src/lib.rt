@@ -1,13 +1,17 @@
 // What a log taught, as text (01, "The listing program"). The log comes in chunks of any size, cut anywhere: `start`, then `feed` for each chunk, then
 // `finish`. The table is lent by the caller, and nothing else is kept but the tally.
 ghost use mathlib.Core.Path.{_≡_};
-ghost use mathlib.Core.List.{_++_};
+ghost use mathlib.Core.List.{[], _∷_, _++_};
 ghost use mathlib.Core.Bool.{cond};
 ghost use Prim.Native.Nat.{_+_, _≤_};
 ghost use lib.ListN.{length, take};
+ghost use Rattle.answers.specs.Answers.{at as judgedAt};
+ghost use Rattle.text.specs.Text.{decimalOf, page};
 ghost use Rattle.record.specs.Cut.{leftOf, over};
-ghost use Rattle.listing.specs.Lines.{isRefused, isOther, withAnswer};
+ghost use Rattle.listing.specs.Lines.{isRefused, isOther, withAnswer, lineOf, lastLine};
 ghost use Rattle.listing.specs.Feed.{state, step, leftIn, padded, started, fed, cutOff, feeding};
+ghost use Rattle.listing.specs.Page.{laidAll};
+use message::Key;
 use table::WORDS;
 
 const SIZE: usize = 13;
@@ -160,4 +164,37 @@ pub fn feed(t: &mut [u64; WORDS], s: Tally, chunk: &[u8]) -> Tally
     let record = joined(&carry[..n], &chunk[..lacks]);
     let counts = one(t, counts, &record);
     rest(t, counts, &chunk[lacks..])
+}
+
+// ---- lines
+
+// Lays a number in decimal, and what stands behind it.
+fn put_number(out: &mut [u8], at: usize, n: u64, behind: &[u8]) -> usize
+    ensures { λ r. ⌜ page r (now (out .exit)) ≡ laidAll (page at (now (out .entry))) (decimalOf n ∷ now (behind .entry) ∷ []) ⌝ }
+{
+    let at = text::put_decimal(out, at, n);
+    text::put_bytes(out, at, behind)
+}
+
+// Lays the line of a key.
+fn put_line(out: &mut [u8], at: usize, key: Key, n: u8, judged: u8, position: u8) -> usize
+    ensures { λ r. ⌜ page r (now (out .exit)) ≡ laidAll (page at (now (out .entry))) (lineOf key n (judgedAt judged position)) ⌝ }
+{
+    let at = put_number(out, at, key.source as u64, b" ");
+    let at = put_number(out, at, key.destination as u64, b" ");
+    let at = put_number(out, at, key.k as u64, b" ");
+    let at = put_number(out, at, n as u64, b" ");
+    let at = put_number(out, at, judged as u64, b" ");
+    put_number(out, at, position as u64, b"\n")
+}
+
+// Lays the last line.
+fn put_last(out: &mut [u8], at: usize, c: Counts, left: usize) -> usize
+    ensures { λ r. ⌜ page r (now (out .exit)) ≡ laidAll (page at (now (out .entry))) (lastLine c left) ⌝ }
+{
+    let at = text::put_bytes(out, at, b"RECORDS ");
+    let at = put_number(out, at, c.records, b" REFUSED ");
+    let at = put_number(out, at, c.refused, b" OTHER ");
+    let at = put_number(out, at, c.other, b" LEFT ");
+    put_number(out, at, left as u64, b"\n")
 }

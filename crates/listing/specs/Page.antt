@@ -1,0 +1,45 @@
+-- The listing that the words of a table and a tally give: on any words and any tally.
+-- Assumes nothing.
+use Prim.Native.Nat.{ℕ, zero, suc}
+use mathlib.Core.Bool.{cond}
+use mathlib.Core.Option.{Option, none, some}
+use mathlib.Core.List.{List, [], _∷_, flatten}
+use lib.ListN.{length}
+use Rattle.answers.specs.Answers.{Outcome, outcome, plain, done}
+use Rattle.splice.specs.Splice.{fits, splice}
+use Rattle.text.specs.Text.{Page, put}
+use Rattle.message.specs.declared.Key.{Key}
+use Rattle.history.specs.History.{mostKeys}
+use Rattle.table.specs.View.{mapIn}
+use Rattle.table.specs.Next.{firstKey, nextKey}
+use Rattle.listing.specs.declared.Tally.{Tally}
+use Rattle.listing.specs.Lines.{listingWith}
+use Rattle.listing.specs.Feed.{leftIn}
+
+-- a key, the next one above it, and so on: n keys, or fewer where there are no more
+unfoldable pub keysFrom : List ℕ → ℕ → Option Key → List Key
+keysFrom t zero next = []
+keysFrom t (suc n) none = []
+keysFrom t (suc n) (some k) = k ∷ keysFrom t n (nextKey t k)
+
+-- the held keys, rising; 16 rows hold no more than 16
+abbrev pub keysIn : List ℕ → List Key
+keysIn t = keysFrom t mostKeys (firstKey t)
+
+-- the listing, in pieces
+abbrev pub piecesOf : List ℕ → Tally → List (List ℕ)
+piecesOf t s = listingWith (mapIn t) (keysIn t) (s .counts) (leftIn (s .left))
+
+abbrev pub pageOf : List ℕ → Tally → List ℕ
+pageOf t s = flatten (piecesOf t s)
+
+-- the listing laid into a buffer: 0 with its length; or 13, and nothing written, where the buffer is too short
+unfoldable pub finished : List ℕ → Tally → List ℕ → Outcome
+finished t s out = cond (fits out 0 (pageOf t s)) (outcome (done (length (pageOf t s))) (splice out 0 (pageOf t s))) (outcome (plain 13) out)
+
+-- ---- only the promises of private functions cite this
+
+-- pieces laid one after another
+unfoldable pub laidAll : Page → List (List ℕ) → Page
+laidAll p [] = p
+laidAll p (x ∷ xs) = laidAll (put (p .bytes) (p .at) x) xs
