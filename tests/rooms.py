@@ -110,6 +110,9 @@ def frames(dice):
     yield from (frame_with(25), frame_with(48))
     # 5.3.1.8.1: bits 1, 8, 9, 57 and 64 of a payload
     yield from (frame(start=bit) for bit in (1, 8, 9, 57, 64))
+    # the last identifier that is one, and the first that is none
+    for identifier in (2**29 - 1, 2**29, 2**29 + 1, TOP):
+        yield from ((identifier, length, frame()[2]) for length in (8, 7))
     # every line that 01 or 002 draws, alone
     for name, edges in EDGES.items():
         for value in edges:

@@ -11,6 +11,7 @@ use lib.Dec.{eqb}
 use lib.ListN.{length, getD, replicate, length-replicate}
 use Rattle.words.specs.Rows.{rowAt, putAt}
 use Rattle.words.specs.Runs.{only, fold, Keyed}
+use Rattle.words.proofs.Tests.{test}
 use Rattle.words.proofs.Rows.{length-rowAt, rowAt-getD, length-putAt, rowAt-putAt, rowAt-putAt-other, putAt-same}
 use Rattle.words.proofs.Runs.{own-events, kept-all}
 use Rattle.answers.specs.Answers.{plain}
@@ -20,7 +21,7 @@ use Rattle.ports.specs.Filters.{modeIn, countIn, placeIn, listedIn, pair
 use Rattle.ports.specs.Calls.{Ask, Order, Decide, Call, calledBy, called, wordsAfter, answerOf, asked, names, pairAfter}
 use Rattle.ports.proofs.Numbers.{number-fits, number-own}
 use Rattle.ports.proofs.Calls.{all-fresh}
-use Rattle.ports.proofs.Lists.{test, same-pair, count-most, count-is, place-holds, listed-at, row-long, Tidy, row-steps}
+use Rattle.ports.proofs.Lists.{same-pair, count-most, count-is, place-holds, listed-at, row-long, Tidy, row-steps}
 
 -- ---- the words of every moment
 

@@ -4,6 +4,7 @@ use crate::lines::first;
 use crate::lines::joined;
 use crate::lines::long;
 use crate::lines::more;
+use crate::lines::numbers;
 use answers::Judgement;
 use dictionary::Found;
 use frame::Three;
@@ -32,25 +33,33 @@ fn judged(j: Judgement) {
 fn fields(id: u32) {
     let f = frame::split(id);
     first(f.priority);
-    more(f.reserved as u32);
-    more(f.page as u32);
-    more(f.pf as u32);
-    more(f.ps as u32);
-    more(f.source as u32);
-    more(frame::pgn(f));
-    more(frame::destination(f) as u32);
+    numbers(
+        &[
+            f.reserved as u32,
+            f.page as u32,
+            f.pf as u32,
+            f.ps as u32,
+            f.source as u32,
+            frame::pgn(f),
+            frame::destination(f) as u32,
+        ],
+    );
 }
 
 fn said(m: Message) {
-    more(m.key.source as u32);
-    more(m.key.destination as u32);
-    more(m.key.k as u32);
-    more(m.head.n as u32);
-    more(m.head.proprietary as u32);
-    more(m.head.transport as u32);
-    more(m.position as u32);
-    more(m.place.spn);
-    more(m.place.start);
+    numbers(
+        &[
+            m.key.source as u32,
+            m.key.destination as u32,
+            m.key.k as u32,
+            m.head.n as u32,
+            m.head.proprietary as u32,
+            m.head.transport as u32,
+            m.position as u32,
+            m.place.spn,
+            m.place.start,
+        ],
+    );
 }
 
 fn decoded(id: u32, len: u8, d: &[u8; 8]) {

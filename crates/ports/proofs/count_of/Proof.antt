@@ -1,3 +1,5 @@
+-- `ports::count_of` meets its contract: the second word, or 32 where it is more.
+-- Assumes nothing.
 use native.Mathlib.Omega.{arith}
 use borrow.Author.Tests.{le-ltb, lt-ltb}
 use borrow.Author.Needs.{needs}

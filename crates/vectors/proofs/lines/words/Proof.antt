@@ -1,10 +1,10 @@
 -- The loop ends, and goes no further than the list. Assumes nothing.
-use mathlib.Core.Path.{_≡_, refl, sym}
+use mathlib.Core.Path.{_≡_, refl}
 use Prim.Native.Nat.{_-_, _≤_}
 use native.Mathlib.Omega.{arith}
 use borrow.Author.Needs.{needs}
 use lib.ListN.{length, length-set}
-use lib.Seq.{length-take-le}
+use Rattle.io.proofs.Counting.{counts}
 use Rattle.vectors.proofs.lines.words.Statement.{statement}
 use Rattle.vectors.proofs.lines.words.Tie as tie
 
@@ -21,16 +21,10 @@ loop-again : tie.Need-loop-again Inv-loop μ-loop
 loop-again c = (search needs, simp length-set (c .before .before .before .loop .inv .1))
 
 returns : tie.Need-returns Inv-loop μ-loop
-returns c =
-    let l = c .before .before .loop in
-    let h : l .i ≤ length (l .list) = omega (arith, l .inv .0, l .inv .1) in
-    (h, sym (length-take-le (l .i) (l .list) h))
+returns c = let l = c .before .before .loop in counts (l .i) (l .list) (omega (arith, l .inv .0, l .inv .1))
 
 returns-2 : tie.Need-returns-2 Inv-loop μ-loop
-returns-2 c =
-    let l = c .before .loop in
-    let h : l .i ≤ length (l .list) = omega (arith, l .inv .0, l .inv .1) in
-    (h, sym (length-take-le (l .i) (l .list) h))
+returns-2 c = let l = c .before .loop in counts (l .i) (l .list) (omega (arith, l .inv .0, l .inv .1))
 
 pub words-spec : {M : Type 1} → statement M
 words-spec =
