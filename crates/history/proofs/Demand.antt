@@ -10,13 +10,29 @@ use lib.Dec.{eqb, leb}
 use borrow.Author.Tests.{leb-true, leb-false, le-leb}
 use Rattle.message.specs.declared.Key.{Key}
 use Rattle.message.specs.declared.Message.{Message}
-use Rattle.maps.specs.Maps.{sameKey, conflict, Map, Nothing, Conflict, Held, mapOf, SameMembers}
+use Rattle.maps.specs.Maps.{sameKey, conflict, Map, Nothing, Conflict, Held, mapOf, learned, SameMembers}
 use Rattle.maps.proofs.Tests.{test, never, key-eq}
 use Rattle.maps.proofs.Maps.{same-map}
 use Rattle.history.specs.History.{mostKeys, Event, Learn, Forget, names, isEmpty, since, without, keys, noRoom, answer, kept, setOf, Few}
-use Rattle.history.specs.Table.{Table, isNothing, full, number, step, after}
+use Rattle.history.specs.Table.{Table, isNothing, isConflict, full, number, step, after}
 use Rattle.history.proofs.Follows.{Follows, Calls, follows, answers}
 use Rattle.history.proofs.Keys.{has, without-le, without-one, has-keys, keys-once}
+
+-- ---- which events are answered 9
+
+ten-or-zero : (c : Bool) → eqb (cond {A = ℕ} c 10 0) 9 ≡ false
+ten-or-zero true = refl
+ten-or-zero false = refl
+
+eleven-or-zero : (c : Bool) → eqb (cond {A = ℕ} c 11 0) 9 ≡ false
+eleven-or-zero true = refl
+eleven-or-zero false = refl
+
+pub nine-if-full : (t : Table) (m : Message) → eqb (number t (Learn m)) 9 ≡ full t (m .key)
+nine-if-full t m = test (full t (m .key)) (λ e. rw e) (λ f. rw f (ten-or-zero (isConflict (learned (t .look (m .key)) m))))
+
+pub never-nine : (t : Table) (k : Key) → eqb (number t (Forget k)) 9 ≡ false
+never-nine t k = eleven-or-zero (isNothing (t .look k))
 
 -- ---- every answer is the defined one, and what is held of a key is the map of its set, whatever the history
 
@@ -27,14 +43,6 @@ pub row-is : {h : List Event} {t : Table} → Calls h t → (k : Key) → t .loo
 row-is c k = follows c .rows k
 
 -- ---- where at no moment more than 16 keys have messages, none is left out
-
-ten-or-zero : (c : Bool) → eqb (cond {A = ℕ} c 10 0) 9 ≡ false
-ten-or-zero true = refl
-ten-or-zero false = refl
-
-eleven-or-zero : (c : Bool) → eqb (cond {A = ℕ} c 11 0) 9 ≡ false
-eleven-or-zero true = refl
-eleven-or-zero false = refl
 
 room : (h : List Event) (m : Message) → length (keys (Learn m ∷ h)) ≤ mostKeys → noRoom h (m .key) ≡ false
 unfolding noRoom

@@ -106,7 +106,7 @@ module _ (key : ℕ) where
 
 -- ---- what the call does
 
-module _ (t : List ℕ) (long : length t ≡ tableWords) (key : ℕ) where
+module _ (t : List ℕ) (key : ℕ) where
   pub held-before : slotOf t key < mostKeys → forgotten t key ≡ outcome (plain 0) (freeTo t key mostKeys)
   unfolding forgotten
   held-before h = rw (lt-ltb (slotOf t key) mostKeys h)
@@ -120,8 +120,8 @@ pub forget-own : (t : List ℕ) → length t ≡ tableWords → (k : Key) → ma
 forget-own t long k = go (decLt (slotOf t (keyNumber k)) mostKeys)
   where
     go : Dec (slotOf t (keyNumber k) < mostKeys) → mapIn (forgotten t (keyNumber k) .memory) k ≡ Nothing
-    go (yes h) = rw (held-before t long (keyNumber k) h) (map-none (freeTo t (keyNumber k) mostKeys) k (omega (arith, gone (keyNumber k) t long)))
-    go (no h) = rw (not-held t long (keyNumber k) (omega arith)) (map-none t k (omega arith))
+    go (yes h) = rw (held-before t (keyNumber k) h) (map-none (freeTo t (keyNumber k) mostKeys) k (omega (arith, gone (keyNumber k) t long)))
+    go (no h) = rw (not-held t (keyNumber k) (omega arith)) (map-none t k (omega arith))
 
 -- another key is held as it was
 pub forget-other : (t : List ℕ) → length t ≡ tableWords → (key : ℕ) (k : Key) → (key ≡ keyNumber k → ⊥) → mapIn (forgotten t key .memory) k ≡ mapIn t k
@@ -132,8 +132,8 @@ forget-other t long key k ne = go (decLt (slotOf t key) mostKeys) (decLt (slotOf
 
     go : Dec (slotOf t key < mostKeys) → Dec (slotOf t (keyNumber k) < mostKeys) → mapIn (forgotten t key .memory) k ≡ mapIn t k
     go (yes h) (yes l) =
-        rw (held-before t long key h, map-at t k l)
+        rw (held-before t key h, map-at t k l)
         (map-at (freeTo t key mostKeys) k (omega (arith, same)) ∙ rw same (ap rowMap (found-row key t long (keyNumber k) ne l)))
     go (yes h) (no l) =
-        rw (held-before t long key h, map-none t k (omega arith)) (map-none (freeTo t key mostKeys) k (omega (arith, same)))
-    go (no h) l = rw (not-held t long key (omega arith))
+        rw (held-before t key h, map-none t k (omega arith)) (map-none (freeTo t key mostKeys) k (omega (arith, same)))
+    go (no h) l = rw (not-held t key (omega arith))

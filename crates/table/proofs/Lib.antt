@@ -6,3 +6,7 @@ pub mod View
 pub mod Learning
 pub mod Forgetting
 pub mod Lowest
+pub mod KeyNumbers
+pub mod Sane
+pub mod Count
+pub mod Events
