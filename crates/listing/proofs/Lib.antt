@@ -1,3 +1,4 @@
 pub mod Records
 pub mod Chunks
 pub mod Pieces
+pub mod Counted

@@ -8,6 +8,8 @@ ghost use lib.ListN.{length, take};
 ghost use Rattle.answers.specs.Answers.{at as judgedAt};
 ghost use Rattle.text.specs.Text.{decimalOf, page};
 ghost use Rattle.record.specs.Cut.{leftOf, over};
+ghost use Rattle.maps.specs.Judge.{countOf};
+ghost use Rattle.table.specs.View.{mapIn};
 ghost use Rattle.listing.specs.Lines.{isRefused, isOther, withAnswer, lineOf, lastLine};
 ghost use Rattle.listing.specs.Feed.{state, step, leftIn, padded, started, fed, cutOff, feeding};
 ghost use Rattle.listing.specs.Page.{laidAll};
@@ -15,6 +17,10 @@ use message::Key;
 use table::WORDS;
 
 const SIZE: usize = 13;
+
+const ROWS: usize = 16;
+
+const ROW_WORDS: usize = 67;
 
 // How many records there were, how many were refused, and how many were of another PGN; each modulo 2^64.
 pub struct Counts {
@@ -186,6 +192,21 @@ fn put_line(out: &mut [u8], at: usize, key: Key, n: u8, judged: u8, position: u8
     let at = put_number(out, at, n as u64, b" ");
     let at = put_number(out, at, judged as u64, b" ");
     put_number(out, at, position as u64, b"\n")
+}
+
+// The number of parameters of a key's map; 0 where it is in conflict, or not held.
+fn count_of(t: &[u64; WORDS], key: Key) -> u8
+    ensures { λ r. ⌜ r ≡ countOf (mapIn (now (t .entry)) key) ⌝ }
+{
+    let i = table::slot_of(t, table::key_number(key.source, key.destination, key.k));
+    if ROWS <= i {
+        return 0;
+    }
+    let a = i * ROW_WORDS;
+    if t[a] != 1 {
+        return 0;
+    }
+    (t[a + 2] % 256) as u8
 }
 
 // Lays the last line.
