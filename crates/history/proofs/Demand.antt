@@ -128,10 +128,19 @@ nine {h} {t} s m =
       λ u. answered s (Learn m) ∙ is-nine b c .1 (no-room-is (kept h) (m .key) .1 (u .0, omega (arith, u .1))),
     )
 
--- a forget makes room: where a held key is forgotten, no key is refused for want of room
-pub freed : (h : List Event) (k j : Key) → length (keys h) ≤ mostKeys → (since h k ≡ [] → ⊥) → noRoom (Forget k ∷ h) j ≡ false
-freed h k j b held =
-    test (noRoom (Forget k ∷ h) j) (λ t. absurd (omega (arith, no-room-is (Forget k ∷ h) j .0 t .1, without-one k (keys h) (keys-once h) there))) (λ f. f)
+-- ---- a forget makes room
+
+kept-forget : (h : List Event) (k : Key) → kept (Forget k ∷ h) ≡ Forget k ∷ kept h
+kept-forget h k = rw (eleven-or-zero (isEmpty (setOf h k)))
+
+-- where a held key is forgotten, one key less is held
+pub one-less : (h : List Event) (k : Key) → (setOf h k ≡ [] → ⊥) → suc (length (keys (kept (Forget k ∷ h)))) ≡ length (keys (kept h))
+one-less h k held = rw (kept-forget h k) (without-one k (keys (kept h)) (keys-once (kept h)) there)
   where
-    there : has k (keys h) ≡ true
-    there = has-keys h k ∙ test (isEmpty (since h k)) (λ e. absurd (held (empty-is (since h k) .0 e))) (λ n. rw n)
+    there : has k (keys (kept h)) ≡ true
+    there = has-keys (kept h) k ∙ test (isEmpty (setOf h k)) (λ e. absurd (held (empty-is (setOf h k) .0 e))) (λ n. rw n)
+
+-- so no key is refused for want of room
+pub freed : (h : List Event) (k j : Key) → (setOf h k ≡ [] → ⊥) → noRoom (kept (Forget k ∷ h)) j ≡ false
+freed h k j held =
+    test (noRoom (kept (Forget k ∷ h)) j) (λ t. absurd (omega (arith, no-room-is (kept (Forget k ∷ h)) j .0 t .1, one-less h k held, at-most h))) (λ f. f)

@@ -15,16 +15,18 @@ use Rattle.maps.specs.Maps.{sameKey, Map, Nothing}
 use Rattle.maps.proofs.Tests.{test, never, key-eq, key-refl}
 use Rattle.history.specs.History.{mostKeys}
 use Rattle.history.specs.Table.{Table, isNothing}
-use Rattle.history.proofs.Keys.{has, Once}
+use Rattle.history.proofs.Keys.{has, Once, same-count}
 use Rattle.history.proofs.Follows.{Sound}
 use Rattle.table.specs.Layout.{keyNumber, keyNumbers, keyNamed, stateWord, keyWord, rowIs, rowOf, slotOf, freeSlot}
 use Rattle.table.specs.View.{rowMap, mapIn, keysTo, keyCount}
+use Rattle.table.specs.Next.{heldKeys}
 use Rattle.table.specs.Calls.{InBytes}
 use Rattle.table.proofs.RowKeys.{is-held, held-is}
-use Rattle.table.proofs.View.{map-at, map-none}
+use Rattle.table.proofs.View.{map-at, map-none, row-something}
 use Rattle.table.proofs.Learning.{is-at, under, free-at}
 use Rattle.table.proofs.Lowest.{found}
 use Rattle.table.proofs.KeyNumbers.{number-back, key-back, named-bytes, inBytes, bytes-yes, yes-bytes}
+use Rattle.table.proofs.Walk.{listed-map, listed-once, listed-bytes}
 use Rattle.table.proofs.Sane.{Sane}
 
 -- ---- the rows that are not free
@@ -99,10 +101,6 @@ module _ (t : List ℕ) where
 abbrev pub tableOf : List ℕ → Table
 tableOf t = record { look = λ k. cond (inBytes k) (mapIn t k) Nothing; count = keyCount t }
 
-pub row-something : (r : List ℕ) → isNothing (rowMap r) ≡ false
-unfolding rowMap
-row-something r = test (eqb (stateWord r) 1) (λ e. rw e) (λ n. rw n)
-
 module _ (t : List ℕ) (s : Sane t) where
   once-to : (n : ℕ) → n ≤ mostKeys → Once (keysTo t n)
   unfolding keysTo Distinct
@@ -139,3 +137,13 @@ module _ (t : List ℕ) (s : Sane t) where
 
   pub sound : Sound (tableOf t)
   sound = record { listed = keysTo t mostKeys; once = once-to mostKeys (omega arith); named = named; counted = refl }
+
+  -- the walk in rising order lists as many keys as rows are used
+  pub walk-count : length (heldKeys t) ≡ keyCount t
+  walk-count = same-count (heldKeys t) (keysTo t mostKeys) (listed-once t) (once-to mostKeys (omega arith)) same
+    where
+      same : (k : Key) → has k (heldKeys t) ≡ has k (keysTo t mostKeys)
+      same k =
+          rw (named k)
+          (test (inBytes k) (λ b. rw b (listed-map t k (bytes-yes k b)))
+          (λ n. rw n (test (has k (heldKeys t)) (λ e. never (yes-bytes k (listed-bytes t k e)) n) (λ f. f))))

@@ -21,12 +21,12 @@ use Rattle.table.specs.Learn.{learnMessage}
 use Rattle.table.specs.Forget.{forgotten}
 use Rattle.table.specs.Calls.{InBytes}
 use Rattle.table.proofs.RowMaps.{InRow}
-use Rattle.table.proofs.View.{map-at, map-none}
+use Rattle.table.proofs.View.{map-at, map-none, row-something}
 use Rattle.table.proofs.Learning.{into-free, no-room, learn-row, learn-new, row-answer, learn-other}
 use Rattle.table.proofs.Forgetting.{held-before, not-held, forget-own, forget-other}
 use Rattle.table.proofs.KeyNumbers.{same-number, inBytes, bytes-yes, yes-bytes}
 use Rattle.table.proofs.Sane.{Sane, sane-learn, sane-forget}
-use Rattle.table.proofs.Count.{row-something, all-used, some-free, tableOf, sound}
+use Rattle.table.proofs.Count.{all-used, some-free, tableOf, sound}
 
 -- ---- an event on the words
 
@@ -49,7 +49,7 @@ sane-event t s (Forget k) f = sane-forget t s (keyNumber k)
 
 -- ---- what the table has of a key that a call can name
 
-looks : (t : List ℕ) (k : Key) → InBytes k → tableOf t .look k ≡ mapIn t k
+pub looks : (t : List ℕ) (k : Key) → InBytes k → tableOf t .look k ≡ mapIn t k
 looks t k b = rw (yes-bytes k b)
 
 -- another key has another number

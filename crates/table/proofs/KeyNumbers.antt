@@ -1,13 +1,15 @@
 -- A key and its number: each gives the other back, and rising numbers are rising keys. Assumes nothing.
 use Prim.Native.Nat.{ℕ, _+_, _*_, _/_, _%_, _≤_, _<_}
 use native.Mathlib.Omega.{arith}
+use native.Mathlib.Decide.{decLt}
 use mathlib.Core.Path.{_≡_, refl, sym, ap, _∙_}
-use mathlib.Core.Logic.{_⊎_, inl, inr, _↔_}
+use mathlib.Core.Logic.{_⊎_, inl, inr}
 use mathlib.Core.Bool.{Bool, true, false, _&&_, and-eq-true-iff}
 use borrow.Author.Tests.{ltb-true, lt-ltb}
 use lib.Dec.{ltb}
 use Rattle.message.specs.declared.Key.{Key}
 use Rattle.table.specs.Layout.{keyNumber, keyNumbers, keyNamed}
+use Rattle.table.specs.Next.{Below}
 use Rattle.table.specs.Calls.{InBytes}
 
 pub number-back : (x : ℕ) → keyNumber (keyNamed x) ≡ x
@@ -29,11 +31,18 @@ named-bytes x h = record { source = omega arith; destination = omega arith; numb
 pub same-number : (a b : Key) → InBytes a → InBytes b → keyNumber a ≡ keyNumber b → a ≡ b
 same-number a b p q e = sym (key-back a p) ∙ ap keyNamed e ∙ key-back b q
 
--- rising by source, destination, k
-pub Below : Key → Key → Type 0
-Below a b =
-    (a .source < b .source)
-    ⊎ ((a .source ≡ b .source) × ((a .destination < b .destination) ⊎ ((a .destination ≡ b .destination) × (a .k < b .k))))
+-- rising numbers are rising keys
+pub rising : (a b : Key) → InBytes a → InBytes b → keyNumber a < keyNumber b → Below a b
+rising a b p q h = go (decLt (a .source) (b .source)) (decLt (a .destination) (b .destination))
+  where
+    go : Dec (a .source < b .source) → Dec (a .destination < b .destination) → Below a b
+    go (yes s) d = inl s
+    go (no s) (yes d) = inr (omega (arith, p .destination, p .number, q .destination, q .number), inl d)
+    go (no s) (no d) =
+        inr (
+          omega (arith, p .destination, p .number, q .destination, q .number),
+          inr (omega (arith, p .destination, p .number, q .destination, q .number), omega (arith, p .destination, p .number, q .destination, q .number)),
+        )
 
 -- a test that a key's numbers are bytes
 abbrev pub inBytes : Key → Bool

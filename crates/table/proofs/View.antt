@@ -4,13 +4,14 @@ use mathlib.Core.Path.{_≡_, refl, sym, ap, _∙_}
 use mathlib.Core.Bool.{Bool, true, false, cond}
 use mathlib.Core.List.{List}
 use borrow.Author.Tests.{lt-ltb, le-ltb}
-use lib.Dec.{ltb}
+use lib.Dec.{eqb, ltb}
 use Rattle.words.specs.Slots.{Held, nothing, held, view}
 use Rattle.message.specs.declared.Key.{Key}
 use Rattle.maps.specs.Maps.{Map, Nothing}
 use Rattle.maps.proofs.Tests.{test}
 use Rattle.history.specs.History.{mostKeys}
-use Rattle.table.specs.Layout.{keyNumber, rowIs, rowOf, slotOf}
+use Rattle.history.specs.Table.{isNothing}
+use Rattle.table.specs.Layout.{keyNumber, stateWord, rowIs, rowOf, slotOf}
 use Rattle.table.specs.View.{rowMap, mapIn}
 
 -- a row holds the key: its map is that row's
@@ -31,3 +32,8 @@ heldMap (held r) = rowMap r
 pub map-view : (t : List ℕ) (k : Key) → mapIn t k ≡ heldMap (view rowIs mostKeys (rowOf t) (keyNumber k))
 unfolding mapIn slotOf view
 map-view t k = test (ltb (slotOf t (keyNumber k)) mostKeys) (λ h. rw h) (λ n. rw n)
+
+-- a row that is not free holds something
+pub row-something : (r : List ℕ) → isNothing (rowMap r) ≡ false
+unfolding rowMap
+row-something r = test (eqb (stateWord r) 1) (λ e. rw e) (λ n. rw n)

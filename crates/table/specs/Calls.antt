@@ -1,13 +1,15 @@
 -- Runs of calls: what they did to the words, and the events that they stand for. A run is a list of calls, the latest first, from the empty table.
 -- Assumes nothing.
 use Prim.Native.Nat.{ℕ, _<_}
+use mathlib.Core.Path.{_≡_}
+use mathlib.Core.Bool.{false}
 use mathlib.Core.Option.{Option, none, some}
 use mathlib.Core.List.{List, [], _∷_, _++_}
 use lib.ListN.{getD}
 use Rattle.message.specs.declared.Key.{Key}
 use Rattle.message.specs.declared.Message.{Message}
 use Rattle.message.specs.Message.{heard}
-use Rattle.history.specs.History.{Event, Learn, Forget, answer}
+use Rattle.history.specs.History.{Event, Learn, Forget, names, answer}
 use Rattle.table.specs.Layout.{keyNumber}
 use Rattle.table.specs.Learn.{emptyTable, learnt}
 use Rattle.table.specs.Forget.{forgotten}
@@ -74,3 +76,8 @@ Carried Reads = Unit {0}
 abbrev pub AllCarried : List Call → Type 0
 AllCarried [] = Unit {0}
 AllCarried (c ∷ cs) = Carried c × AllCarried cs
+
+-- no event of the list names the key
+abbrev pub Silent : Key → List Event → Type 0
+Silent k [] = Unit {0}
+Silent k (e ∷ h) = (names k e ≡ false) × Silent k h
