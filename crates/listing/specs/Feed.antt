@@ -3,7 +3,7 @@
 -- Assumes nothing.
 use Prim.Native.Nat.{ℕ}
 use mathlib.Core.Bool.{cond}
-use mathlib.Core.List.{List, [], _++_}
+use mathlib.Core.List.{List, [], _∷_, _++_}
 use lib.Dec.{ltb}
 use lib.ListN.{length, take, drop, replicate}
 use Rattle.answers.specs.Answers.{Outcome}
@@ -68,3 +68,8 @@ cutOff s left = fed (s .words) (tallyOf (s .counts) left)
 -- the carried bytes and the chunk, as if they had come as one
 unfoldable pub feeding : List ℕ → Tally → List ℕ → Fed
 feeding words s chunk = cutOff (over step (state words (s .counts)) (carried s ++ chunk)) (leftOf (carried s ++ chunk))
+
+-- chunk after chunk
+unfoldable pub allFed : Fed → List (List ℕ) → Fed
+allFed f [] = f
+allFed f (x ∷ xs) = allFed (feeding (f .words) (f .tally) x) xs

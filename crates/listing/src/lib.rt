@@ -9,10 +9,11 @@ ghost use Rattle.answers.specs.Answers.{at as judgedAt};
 ghost use Rattle.text.specs.Text.{decimalOf, page};
 ghost use Rattle.record.specs.Cut.{leftOf, over};
 ghost use Rattle.maps.specs.Judge.{countOf};
+ghost use Rattle.table.specs.Layout.{tableWords};
 ghost use Rattle.table.specs.View.{mapIn};
 ghost use Rattle.listing.specs.Lines.{isRefused, isOther, withAnswer, lineOf, lastLine};
 ghost use Rattle.listing.specs.Feed.{state, step, leftIn, padded, started, fed, cutOff, feeding};
-ghost use Rattle.listing.specs.Page.{laidAll};
+ghost use Rattle.listing.specs.Page.{countAt, laidAll};
 use message::Key;
 use table::WORDS;
 
@@ -194,11 +195,11 @@ fn put_line(out: &mut [u8], at: usize, key: Key, n: u8, judged: u8, position: u8
     put_number(out, at, position as u64, b"\n")
 }
 
-// The number of parameters of a key's map; 0 where it is in conflict, or not held.
-fn count_of(t: &[u64; WORDS], key: Key) -> u8
-    ensures { λ r. ⌜ r ≡ countOf (mapIn (now (t .entry)) key) ⌝ }
+// The number of parameters of a row; 0 where it is in conflict, and past the last row.
+fn count_in(t: &[u64], i: usize) -> u8
+    requires { ⌜ length (now t) ≡ tableWords ⌝ }
+    ensures { λ r. ⌜ r ≡ countAt (now (t .entry)) i ⌝ }
 {
-    let i = table::slot_of(t, table::key_number(key.source, key.destination, key.k));
     if ROWS <= i {
         return 0;
     }
@@ -207,6 +208,13 @@ fn count_of(t: &[u64; WORDS], key: Key) -> u8
         return 0;
     }
     (t[a + 2] % 256) as u8
+}
+
+// The number of parameters of a key's map; 0 where it is in conflict, or not held.
+fn count_of(t: &[u64; WORDS], key: Key) -> u8
+    ensures { λ r. ⌜ r ≡ countOf (mapIn (now (t .entry)) key) ⌝ }
+{
+    count_in(t, table::slot_of(t, table::key_number(key.source, key.destination, key.k)))
 }
 
 // Lays the last line.
