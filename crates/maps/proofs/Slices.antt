@@ -31,14 +31,14 @@ module _ (n : ℕ) (transport : Bool) (spns starts widths : List ℕ) where
   abbrev ps : ℕ → Option Param
   ps = inSlices spns starts widths
 
-  gone : (i : ℕ) → missing everyone ps i ≡ marked spns i
-  gone i = test (marked spns i) (λ t. rw t) (λ f. rw f)
+  gone : (i : ℕ) → missing everyone ps i ≡ marked widths i
+  gone i = test (marked widths i) (λ t. rw t) (λ f. rw f)
 
-  missing-is : lowest (missing everyone ps) n ≡ lowest (marked spns) n
+  missing-is : lowest (missing everyone ps) n ≡ lowest (marked widths) n
   missing-is = lowest-equal _ _ n (λ i l. gone i)
 
   -- where nothing is missing, the slices' own numbers count
-  module _ (here : (i : ℕ) → i < n → marked spns i ≡ false) where
+  module _ (here : (i : ℕ) → i < n → marked widths i ≡ false) where
     spn-is : (i : ℕ) → i < n → spnAt ps i ≡ numberAt spns i
     spn-is i l = rw (here i l)
 
@@ -102,7 +102,7 @@ module _ (n : ℕ) (transport : Bool) (spns starts widths : List ℕ) where
   from3 = at 3 (lowest (unknown everyone (numberAt widths)) n) ∷ from4
 
   abbrev pub from2 : List Judged
-  from2 = at 2 (lowest (marked spns) n) ∷ from3
+  from2 = at 2 (lowest (marked widths) n) ∷ from3
 
   -- 8 or 0
   abbrev pub plainLast : Judged
@@ -111,11 +111,11 @@ module _ (n : ℕ) (transport : Bool) (spns starts widths : List ℕ) where
   pub plainly : judgeOver n transport (inSlices spns starts widths) ≡ firstNamed from2 plainLast
   unfolding judgeOver
   plainly =
-      test (eqb (lowest (marked spns) n) 0) (λ t. whole (lowest-each (marked spns) n (eqb-true _ 0 t)))
-      (λ f. let q = eqb-false (lowest (marked spns) n) 0 f in
+      test (eqb (lowest (marked widths) n) 0) (λ t. whole (lowest-each (marked widths) n (eqb-true _ 0 t)))
+      (λ f. let q = eqb-false (lowest (marked widths) n) 0 f in
       stop 2 _ _ _ _ (sym missing-is) q ∙ sym (stop 2 _ _ _ _ refl q))
     where
-      whole : ((i : ℕ) → i < n → marked spns i ≡ false)
+      whole : ((i : ℕ) → i < n → marked widths i ≡ false)
           → firstNamed (rules everyone n ps) (at (cond (wrongTransport transport (sizeOver n ps)) 8 0) 0)
           ≡ firstNamed from2 plainLast
       whole here =

@@ -1,0 +1,3 @@
+pub mod Unfolded
+pub mod Calls
+pub mod Keys
