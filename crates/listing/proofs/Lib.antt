@@ -6,3 +6,4 @@ pub mod Sorted
 pub mod Feeding
 pub mod Widths
 pub mod Told
+pub mod Finished

@@ -67,6 +67,10 @@ unfoldable pub lastLine : Counts → ℕ → List (List ℕ)
 lastLine c left =
     spelt "RECORDS " ∷ (number (c .records) " REFUSED " ++ (number (c .refused) " OTHER " ++ (number (c .other) " LEFT " ++ number left "\n")))
 
--- the whole listing of some keys, by what is known of each
+-- the lines of some keys, by what is known of each
+abbrev pub keyLines : (Key → Map) → List Key → List (List ℕ)
+keyLines look ks = flatMap (λ k. keyLine k (look k)) ks
+
+-- the whole listing
 unfoldable pub listingWith : (Key → Map) → List Key → Counts → ℕ → List (List ℕ)
-listingWith look ks c left = header ∷ (flatMap (λ k. keyLine k (look k)) ks ++ lastLine c left)
+listingWith look ks c left = header ∷ (keyLines look ks ++ lastLine c left)

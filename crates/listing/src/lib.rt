@@ -5,17 +5,23 @@ ghost use mathlib.Core.List.{[], _∷_, _++_};
 ghost use mathlib.Core.Bool.{cond};
 ghost use Prim.Native.Nat.{_+_, _≤_};
 ghost use lib.ListN.{length, take};
-ghost use Rattle.answers.specs.Answers.{at as judgedAt};
+ghost use Rattle.answers.specs.Answers.{at as judgedAt, outcome, inNumbers};
 ghost use Rattle.text.specs.Text.{decimalOf, page};
 ghost use Rattle.record.specs.Cut.{leftOf, over};
 ghost use Rattle.maps.specs.Judge.{countOf};
 ghost use Rattle.table.specs.Layout.{tableWords};
 ghost use Rattle.table.specs.View.{mapIn};
-ghost use Rattle.listing.specs.Lines.{isRefused, isOther, withAnswer, lineOf, lastLine};
+ghost use Rattle.table.specs.Next.{heldKeys};
+ghost use Rattle.listing.specs.Lines.{isRefused, isOther, withAnswer, lineOf, keyLine, keyLines, lastLine};
 ghost use Rattle.listing.specs.Feed.{state, step, leftIn, padded, started, fed, cutOff, feeding};
-ghost use Rattle.listing.specs.Page.{countAt, laidAll};
+ghost use Rattle.listing.specs.Page.{piecesOf, finished, countAt, laidAll};
+use answers::Answer;
 use message::Key;
+use table::Next;
 use table::WORDS;
+
+// So many bytes hold any listing (proofs/Widths.antt).
+pub const PAGE: usize = 512;
 
 const SIZE: usize = 13;
 
@@ -214,7 +220,42 @@ fn count_in(t: &[u64], i: usize) -> u8
 fn count_of(t: &[u64; WORDS], key: Key) -> u8
     ensures { λ r. ⌜ r ≡ countOf (mapIn (now (t .entry)) key) ⌝ }
 {
-    count_in(t, table::slot_of(t, table::key_number(key.source, key.destination, key.k)))
+    count_in(
+        t,
+        table::slot_of(t, table::key_number(key.source, key.destination, key.k)),
+    )
+}
+
+// Lays the line of one key, by what the table holds of it.
+fn put_key(t: &[u64; WORDS], out: &mut [u8], at: usize, key: Key) -> usize
+    ensures { λ r. ⌜ page r (now (out .exit)) ≡ laidAll (page at (now (out .entry))) (keyLine key (mapIn (now (t .entry)) key)) ⌝ }
+{
+    let n = count_of(t, key);
+    let judged = ask::judge(t, key.source, key.destination, key.k);
+    let judgement = judged.judgement;
+    let number = answers::number_of(judgement);
+    let position = answers::position_of(judgement);
+    put_line(out, at, key, n, number, position)
+}
+
+// Lays the lines of the held keys, rising; 16 rows hold no more than 16.
+fn put_keys(t: &[u64; WORDS], out: &mut [u8], at: usize) -> usize
+    ensures { λ r. ⌜ page r (now (out .exit)) ≡ laidAll (page at (now (out .entry))) (keyLines (mapIn (now (t .entry))) (heldKeys (now (t .entry)))) ⌝ }
+{
+    let mut place = at;
+    let mut next = table::first_key(t);
+    let mut i = 0;
+    while i < ROWS {
+        match next {
+            Next::Found(key) => {
+                place = put_key(t, out, place, key);
+                next = table::next_key(t, key.source, key.destination, key.k);
+            }
+            Next::NoMore => return place,
+        }
+        i += 1;
+    }
+    place
 }
 
 // Lays the last line.
@@ -226,4 +267,29 @@ fn put_last(out: &mut [u8], at: usize, c: Counts, left: usize) -> usize
     let at = put_number(out, at, c.refused, b" OTHER ");
     let at = put_number(out, at, c.other, b" LEFT ");
     put_number(out, at, left as u64, b"\n")
+}
+
+// ---- the listing
+
+// Lays the whole listing.
+fn put_all(t: &[u64; WORDS], s: Tally, out: &mut [u8]) -> usize
+    ensures { λ r. ⌜ page r (now (out .exit)) ≡ laidAll (page 0 (now (out .entry))) (piecesOf (now (t .entry)) s) ⌝ }
+{
+    let at = text::put_bytes(out, 0, b"SRC DST MSG N JUDGED AT\n");
+    let at = put_keys(t, out, at);
+    let counts = s.counts;
+    let left = left_in(s.left);
+    put_last(out, at, counts, left)
+}
+
+// Lays the listing over the start of `out`: 0 with its length, or 13 and nothing written where `out` is too short. 512 bytes are never too short.
+pub fn finish(t: &[u64; WORDS], s: Tally, out: &mut [u8]) -> Answer
+    ensures { λ r. ⌜ outcome (inNumbers r) (now (out .exit)) ≡ finished (now (t .entry)) s (now (out .entry)) ⌝ }
+{
+    let mut page = [0u8; PAGE];
+    let n = put_all(t, s, &mut page);
+    if splice::copy_at(out, 0, &page[..n]) {
+        return answers::with_detail(0, n as u32);
+    }
+    answers::plainly(13)
 }
