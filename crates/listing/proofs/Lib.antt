@@ -7,3 +7,5 @@ pub mod Feeding
 pub mod Widths
 pub mod Told
 pub mod Finished
+pub mod Theorem
+pub mod Examples

@@ -60,15 +60,18 @@ rising (k ∷ ks) = insert k (rising ks)
 abbrev pub known : List Event → Key → Map
 known events k = mapOf (setOf events k)
 
--- "RECORDS counts the whole records, OTHER answer 2, REFUSED answers 1 and 3 to 9"
-abbrev pub countsOf : List ℕ → List ℕ → Counts
-countsOf log answers = record {
-  records = wrapped (wholeIn log);
+-- "RECORDS counts the whole records, OTHER answer 2, REFUSED answers 1 and 3 to 9": from the number of records and the answers to them
+abbrev pub countsOf : ℕ → List ℕ → Counts
+countsOf whole answers = record {
+  records = wrapped whole;
   refused = wrapped (length (only isRefused answers));
   other = wrapped (length (only isOther answers));
 }
 
--- "Keys are listed rising"; "LEFT the bytes of a cut last record"
+-- what a story says of a log of so many whole records with so many bytes left: "Keys are listed rising"
+abbrev pub listingBy : Story → ℕ → ℕ → List ℕ
+listingBy s whole left = flatten (listingWith (known (s .events)) (rising (keys (kept (s .events)))) (countsOf whole (s .answers)) left)
+
+-- "LEFT the bytes of a cut last record"
 unfoldable pub listingOf : List ℕ → List ℕ
-listingOf log =
-    flatten (listingWith (known (storyOf log .events)) (rising (keys (kept (storyOf log .events)))) (countsOf log (storyOf log .answers)) (length (leftOf log)))
+listingOf log = listingBy (storyOf log) (wholeIn log) (length (leftOf log))
