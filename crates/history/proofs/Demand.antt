@@ -44,7 +44,7 @@ row-is c k = follows c .rows k
 
 -- ---- where at no moment more than 16 keys have messages, none is left out
 
-room : (h : List Event) (m : Message) → length (keys (Learn m ∷ h)) ≤ mostKeys → noRoom h (m .key) ≡ false
+pub room : (h : List Event) (m : Message) → length (keys (Learn m ∷ h)) ≤ mostKeys → noRoom h (m .key) ≡ false
 unfolding noRoom
 room h m b =
     test (noRoom h (m .key))

@@ -27,7 +27,7 @@ pub nothing-is : (s : List Message) → isNothing (mapOf s) ≡ isEmpty s
 nothing-is [] = refl
 nothing-is (m ∷ s) = test (conflict (m ∷ s)) (λ t. rw t) (λ f. rw f)
 
-conflict-is : (m : Message) (s : List Message) → isConflict (mapOf (m ∷ s)) ≡ conflict (m ∷ s)
+pub conflict-is : (m : Message) (s : List Message) → isConflict (mapOf (m ∷ s)) ≡ conflict (m ∷ s)
 conflict-is m s = test (conflict (m ∷ s)) (λ t. rw t) (λ f. rw f)
 
 full-is : (t : Table) (h : List Event) (k : Key) → Follows t h → full t k ≡ noRoom h k
