@@ -40,14 +40,14 @@ module _ (n : ℕ) (transport : Bool) (spns starts widths : List ℕ) where
   from3 = at 3 (lowest (unknown everyone (numberAt widths)) n) ∷ from4
 
   abbrev pub from2 : List Judged
-  from2 = at 2 (lowest (marked spns) n) ∷ from3
+  from2 = at 2 (lowest (marked widths) n) ∷ from3
 
   -- 8 or 0
   abbrev pub plainLast : Judged
   plainLast = at (cond (wrongTransport transport (bytesFor (endTo starts widths n))) 8 0) 0
 
-  missing-is : lowest (missing everyone (inSlices spns starts widths)) n ≡ lowest (marked spns) n
-  missing-is = lowest-equal _ _ n (λ i l. test (marked spns i) (λ t. rw t) (λ f. rw f))
+  missing-is : lowest (missing everyone (inSlices spns starts widths)) n ≡ lowest (marked widths) n
+  missing-is = lowest-equal _ _ n (λ i l. test (marked widths i) (λ t. rw t) (λ f. rw f))
 
   -- where nothing is missing, this stands at every position
   abbrev whole : ℕ → Option Param
@@ -62,19 +62,19 @@ module _ (n : ℕ) (transport : Bool) (spns starts widths : List ℕ) where
       ap (λ (k : ℕ). bytesFor (endTo ss ws k)) (length-tabulate (numberAt starts) n)
       ∙ ap bytesFor (end-equal ss ws starts widths n (λ i l. ap₂ endOf (get-tabulate (numberAt starts) n i l) (get-tabulate (numberAt widths) n i l)))
 
-  whole-is : ((i : ℕ) → i < n → marked spns i ≡ false) → judgeOver n transport whole ≡ firstNamed from2 plainLast
+  whole-is : ((i : ℕ) → i < n → marked widths i ≡ false) → judgeOver n transport whole ≡ firstNamed from2 plainLast
   unfolding judgeOver
   whole-is here =
-      let none-missing = lowest-none (missing everyone whole) n (λ i l. refl) ∙ sym (lowest-none (marked spns) n here) in
+      let none-missing = lowest-none (missing everyone whole) n (λ i l. refl) ∙ sym (lowest-none (marked widths) n here) in
       λ k. firstNamed (at 2 (none-missing k) ∷ from3) (at (cond (wrongTransport transport (size-is k)) 8 0) 0)
 
   pub plainly : judgeOver n transport (inSlices spns starts widths) ≡ firstNamed from2 plainLast
   unfolding judgeOver
   plainly =
-      test (eqb (lowest (marked spns) n) 0)
-      (λ t. let here = lowest-each (marked spns) n (eqb-true _ 0 t) in
+      test (eqb (lowest (marked widths) n) 0)
+      (λ t. let here = lowest-each (marked widths) n (eqb-true _ 0 t) in
       judged-same n (inSlices spns starts widths) whole (λ i l. rw (here i l)) transport ∙ whole-is here)
-      (λ f. let q = eqb-false (lowest (marked spns) n) 0 f in stop 2 _ _ _ _ (sym missing-is) q ∙ sym (stop 2 _ _ _ _ refl q))
+      (λ f. let q = eqb-false (lowest (marked widths) n) 0 f in stop 2 _ _ _ _ (sym missing-is) q ∙ sym (stop 2 _ _ _ _ refl q))
 
   -- the rules before a place in the list name no position, so the judgement is that of the rest
   abbrev pub Left : List Judged → Type 0

@@ -160,13 +160,13 @@ lengthOf widthOf m = sizeOf (startsOf widthOf m) (widthsOf widthOf m)
 
 -- ---- of plain slices
 
--- the SPN that says "nothing stands here"; no message can name it
+-- the width that says "nothing stands here"; a dictionary gives at most 32
 abbrev pub mark : ℕ
 mark = 0xffff_ffff
 
--- nothing stands at an index: the SPNs end before it, or have the mark there
+-- nothing stands at an index: the widths end before it, or have the mark there
 abbrev pub marked : List ℕ → ℕ → Bool
-marked spns i = eqb (getD spns i mark) mark
+marked widths i = eqb (getD widths i mark) mark
 
 -- what a slice has at an index, 0 past its end
 abbrev pub numberAt : List ℕ → ℕ → ℕ
@@ -176,4 +176,4 @@ numberAt l i = getD l i 0
 abbrev pub inSlices : List ℕ → List ℕ → List ℕ → ℕ → Option Param
 inSlices spns starts widths zero = none
 inSlices spns starts widths (suc i) =
-    cond (marked spns i) none (some (record { spn = numberAt spns i; start = numberAt starts i; width = numberAt widths i }))
+    cond (marked widths i) none (some (record { spn = numberAt spns i; start = numberAt starts i; width = numberAt widths i }))

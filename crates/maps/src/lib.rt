@@ -9,7 +9,7 @@ ghost use Rattle.payload.specs.Place.{sharesBit, endIn, endTo};
 ghost use Rattle.maps.specs.Judge.{marked, numberAt, everyone, unknown, repeated, notAbove, overlaps, beyond, wrongTransport, judgeOver, inSlices};
 use answers::Judgement;
 
-// The SPN that says "nothing stands at this position".
+// The width that says "nothing stands at this position".
 pub const MISSING: u32 = 0xffff_ffff;
 
 // What stands at index i, and `other` past the end.
@@ -24,19 +24,19 @@ fn at_or(s: &[u32], i: u8, other: u32) -> u32
 }
 
 // Whether nothing stands at index i.
-fn is_missing(spns: &[u32], i: u8) -> bool
-    ensures { λ r. ⌜ r ≡ marked (now (spns .entry)) i ⌝ }
+fn is_missing(widths: &[u32], i: u8) -> bool
+    ensures { λ r. ⌜ r ≡ marked (now (widths .entry)) i ⌝ }
 {
-    at_or(spns, i, MISSING) == MISSING
+    at_or(widths, i, MISSING) == MISSING
 }
 
 // The lowest position that is missing, or 0.
-fn lowest_missing(n: u8, spns: &[u32]) -> u8
-    ensures { λ r. ⌜ r ≡ lowest (marked (now (spns .entry))) n ⌝ }
+fn lowest_missing(n: u8, widths: &[u32]) -> u8
+    ensures { λ r. ⌜ r ≡ lowest (marked (now (widths .entry))) n ⌝ }
 {
     let mut i = 0;
     while i < n {
-        if is_missing(spns, i) {
+        if is_missing(widths, i) {
             return i + 1;
         }
         i += 1;
@@ -192,7 +192,7 @@ fn is_wrong_transport(transport: bool, bytes: u64) -> bool
 pub fn judge(n: u8, transport: bool, spns: &[u32], starts: &[u32], widths: &[u32]) -> Judgement
     ensures { λ r. ⌜ saidOf r ≡ judgeOver n transport (inSlices (now (spns .entry)) (now (starts .entry)) (now (widths .entry))) ⌝ }
 {
-    let missing = lowest_missing(n, spns);
+    let missing = lowest_missing(n, widths);
     if missing != 0 {
         return Judgement::Missing(missing);
     }

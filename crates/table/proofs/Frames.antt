@@ -1,20 +1,20 @@
 -- What a frame's answer says for the table: a refusal leaves the words, and a message's numbers have their place in a row. Assumes nothing.
-use Prim.Native.Nat.{ℕ, _+_, _-_, _≤_, _<_}
+use Prim.Native.Nat.{ℕ, _≤_, _<_}
 use mathlib.Core.Bool.{Bool, true, false, cond, _&&_}
 use borrow.Author.Tests.{leb-true}
 use lib.Dec.{T, leb, ltb}
 use lib.ListN.{getD}
-use mathlib.Core.Path.{_≡_, refl, sym, ap, _∙_}
-use mathlib.Core.Option.{Option, none, some}
+use mathlib.Core.Path.{_≡_, refl, sym, ap}
+use mathlib.Core.Option.{some}
 use mathlib.Core.List.{List, [], _∷_}
 use native.Mathlib.Omega.{arith}
-use Rattle.answers.specs.Answers.{Outcome, outcome, plain}
+use Rattle.answers.specs.Answers.{outcome, plain}
 use Rattle.frame.specs.Frame.{bits, fieldsOf}
 use Rattle.message.specs.declared.Message.{Message}
 use Rattle.message.specs.declared.Decoded.the-variants.{Refused, Taken}
 use Rattle.message.specs.Message.{Test, firstOf, frameTests, dataTests, Heard, heardOf, heard, wireOf}
 use Rattle.message.proofs.WellFormed.{WellFormed, heard-exactly, heard-message, heard-ranges}
-use Rattle.table.specs.Layout.{positions}
+use Rattle.table.specs.Layout.{Storable}
 use Rattle.table.specs.Learn.{learnMessage, taught, learnt}
 use Rattle.table.specs.Calls.{InBytes}
 use Rattle.table.proofs.RowMaps.{InRow}
@@ -32,11 +32,10 @@ module _ (id len : ℕ) (d : List ℕ) (m : Message) (e : heardOf (Taken m) ≡ 
   pub well : WellFormed id len (fieldsOf id) (wireOf d)
   well = heard-exactly id len d .0 (sym (ap (λ (h : Heard). h .number) e))
 
-  pub position-fits : m .position ≤ positions
-  position-fits = rw (heard-message id len d m (sym (ap (λ (h : Heard). h .message) e)) .1) (omega (arith, well .count .1, well .position .1))
-
-  pub start-fits : m .place .start ≤ 14279
-  start-fits = rw (heard-message id len d m (sym (ap (λ (h : Heard). h .message) e)) .1) (omega (arith, well .start .1))
+  pub storable : Storable m
+  storable =
+      rw (heard-message id len d m (sym (ap (λ (h : Heard). h .message) e)) .1)
+      (omega (arith, well .count .1, well .position .1), omega (arith, well .start .1))
 
 -- ---- any frame
 

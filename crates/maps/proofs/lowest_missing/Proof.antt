@@ -8,10 +8,10 @@ use Rattle.maps.proofs.lowest_missing.Statement.{statement}
 use Rattle.maps.proofs.lowest_missing.Tie as tie
 
 abbrev Inv-loop : tie.InvT-loop
-Inv-loop n spns i₀ i = None (marked spns) i
+Inv-loop n widths i₀ i = None (marked widths) i
 
 abbrev μ-loop : tie.MeasureT-loop
-μ-loop n spns i₀ i = n - i
+μ-loop n widths i₀ i = n - i
 
 pub lowest-missing-spec : {M : Type 1} → statement M
 lowest-missing-spec =

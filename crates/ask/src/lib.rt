@@ -1,0 +1,302 @@
+// Every question about a key: judging its map, packing and reading its payloads, finding an SPN in it (01, "Answer numbers"). The learned table is
+// lent as words; whatever they hold, each call has its defined answer, and none changes them. A call finds its key's row once and unfolds it once.
+ghost use mathlib.Core.Path.{_≡_};
+ghost use mathlib.Core.Bool.{cond};
+ghost use mathlib.Core.List.{List};
+ghost use Prim.Native.Nat.{ℕ, _≤_};
+ghost use lib.Dec.{eqb};
+ghost use lib.ListN.{length, getD};
+ghost use Rattle.answers.specs.Answers.{saidOf, inNumbers, outcome};
+ghost use Rattle.payload.specs.Bits.{lowest};
+ghost use Rattle.payload.specs.Calls.{toldBy};
+ghost use Rattle.dictionary.specs.Dictionary.{widthOf};
+ghost use Rattle.maps.specs.Judge.{spnIn, startIn, withWidth, mark, judge as judgementOf};
+ghost use Rattle.table.specs.Layout.{tableWords, rowWords, positions, keyOf};
+ghost use Rattle.table.specs.View.{headOf, placeOf, rowMap, mapIn};
+ghost use Rattle.ask.specs.Ask.{judgedBy, packedBy, readBy, foundIn, notFound, foundBy};
+ghost use Rattle.ask.specs.Unfolded.{spnsIn, startsIn, widthsIn, rowFor, asOutcome};
+use answers::Answer;
+use answers::Judgement;
+use payload::Laying;
+use table::WORDS;
+
+// The table: 16 rows of 67 words.
+const ROWS: usize = 16;
+
+const ROW_WORDS: usize = 67;
+
+// A row: its state, of which 1 is held and any other in conflict; n and the flags; from CELLS on a cell for each of 64 positions.
+const STATE: usize = 0;
+
+const HELD: u64 = 1;
+
+const FORM: usize = 2;
+
+const CELLS: usize = 3;
+
+const POSITIONS: usize = 64;
+
+// What finding gives; position, start and width are 0 on a refusal.
+pub struct Found {
+    pub answer: Answer,
+    pub position: u8,
+    pub start: u32,
+    pub width: u32,
+}
+
+// ---- the words of a row
+
+// The number of parameters.
+fn n_of(form: u64) -> u8
+    ensures { λ r. ⌜ r ≡ headOf form .n ⌝ }
+{
+    (form % 256) as u8
+}
+
+// The transport flag.
+fn transport_of(form: u64) -> bool
+    ensures { λ r. ⌜ r ≡ headOf form .transport ⌝ }
+{
+    form / 512 % 2 == 1
+}
+
+// The SPN of a cell, 0 where nothing stands there.
+fn spn_of(cell: u64) -> u32
+    ensures { λ r. ⌜ r ≡ spnIn (withWidth widthOf (placeOf cell)) ⌝ }
+{
+    if cell == 0 {
+        return 0;
+    }
+    ((cell - 1) % 4294967296) as u32
+}
+
+// The start of a cell, 0 where nothing stands there.
+fn start_of(cell: u64) -> u32
+    ensures { λ r. ⌜ r ≡ startIn (withWidth widthOf (placeOf cell)) ⌝ }
+{
+    if cell == 0 {
+        return 0;
+    }
+    ((cell - 1) / 4294967296) as u32
+}
+
+// The width of a cell's parameter by its SPN, or the mark that nothing stands there. Every width that a call uses comes from here, once for each
+// parameter.
+fn width_in(cell: u64, spn: u32) -> u32
+    ensures { λ r. ⌜ r ≡ cond (eqb cell 0) mark (widthOf spn) ⌝ }
+{
+    if cell == 0 {
+        return maps::MISSING;
+    }
+    dictionary::width_of(spn)
+}
+
+// Unfolds a row: its 64 cells as SPNs, starts and widths.
+fn unfold_row(row: &[u64], spns: &mut [u32], starts: &mut [u32], widths: &mut [u32])
+    requires { ⌜ (length (now row) ≡ rowWords) × (length (now spns) ≡ positions) × (length (now starts) ≡ positions) × (length (now widths) ≡ positions) ⌝ }
+    ensures { λ _. ⌜ (now (spns .exit) ≡ spnsIn (now (row .entry))) × (now (starts .exit) ≡ startsIn (now (row .entry)))
+        × (now (widths .exit) ≡ widthsIn (now (row .entry))) ⌝ }
+{
+    let mut i = 0;
+    while i < POSITIONS {
+        let cell = row[CELLS + i];
+        let spn = spn_of(cell);
+        let start = start_of(cell);
+        spns[i] = spn;
+        starts[i] = start;
+        widths[i] = width_in(cell, spn);
+        i += 1;
+    }
+}
+
+// Unfolds a row and judges its map.
+fn judge_row(row: &[u64], spns: &mut [u32], starts: &mut [u32], widths: &mut [u32]) -> Judgement
+    requires { ⌜ (length (now row) ≡ rowWords) × (length (now spns) ≡ positions) × (length (now starts) ≡ positions) × (length (now widths) ≡ positions) ⌝ }
+    ensures { λ r. ⌜ (saidOf r ≡ judgementOf widthOf (rowMap (now (row .entry)))) × (now (spns .exit) ≡ spnsIn (now (row .entry)))
+        × (now (starts .exit) ≡ startsIn (now (row .entry))) × (now (widths .exit) ≡ widthsIn (now (row .entry))) ⌝ }
+{
+    unfold_row(row, spns, starts, widths);
+    if row[STATE] != HELD {
+        return Judgement::Conflict;
+    }
+    let form = row[FORM];
+    maps::judge(n_of(form), transport_of(form), spns, starts, widths)
+}
+
+// What packing or reading a usable map told, as an answer.
+fn told(laying: Laying) -> Answer
+    ensures { λ r. ⌜ ((b : List ℕ) → outcome (inNumbers r) b ≡ asOutcome (toldBy laying b)) ⌝ }
+{
+    match laying {
+        Laying::Done(detail) => answers::with_detail(0, detail),
+        Laying::Unplaced(p) => answers::with_detail(12, p as u32),
+        Laying::Length => answers::plainly(13),
+        Laying::TooWide(p) => answers::with_detail(14, p as u32),
+    }
+}
+
+// Packs numbers for the map of a row.
+fn pack_row(row: &[u64], numbers: &[u32], out: &mut [u8]) -> Answer
+    requires { ⌜ length (now row) ≡ rowWords ⌝ }
+    ensures { λ r. ⌜ outcome (inNumbers r) (now (out .exit)) ≡ packedBy widthOf (rowMap (now (row .entry))) (now (numbers .entry)) (now (out .entry)) ⌝ }
+{
+    let mut spns = [0u32; POSITIONS];
+    let mut starts = [0u32; POSITIONS];
+    let mut widths = [0u32; POSITIONS];
+    let judgement = judge_row(row, &mut spns, &mut starts, &mut widths);
+    if answers::number_of(judgement) != 0 { // 12, before 13 and 14
+        return answers::not_usable(judgement);
+    }
+    let n = n_of(row[FORM]) as usize;
+    told(payload::pack(&starts[..n], &widths[..n], numbers, out))
+}
+
+// Reads a payload by the map of a row.
+fn read_row(row: &[u64], payload: &[u8], room: &mut [u32]) -> Answer
+    requires { ⌜ length (now row) ≡ rowWords ⌝ }
+    ensures { λ r. ⌜ outcome (inNumbers r) (now (room .exit)) ≡ readBy widthOf (rowMap (now (row .entry))) (now (payload .entry)) (now (room .entry)) ⌝ }
+{
+    let mut spns = [0u32; POSITIONS];
+    let mut starts = [0u32; POSITIONS];
+    let mut widths = [0u32; POSITIONS];
+    let judgement = judge_row(row, &mut spns, &mut starts, &mut widths);
+    if answers::number_of(judgement) != 0 { // 12, before 13
+        return answers::not_usable(judgement);
+    }
+    let n = n_of(row[FORM]) as usize;
+    told(payload::read(&starts[..n], &widths[..n], payload, room))
+}
+
+// The lowest position from 1 to n whose SPN it is, or 0.
+fn position_in(spns: &[u32], n: u8, spn: u32) -> u8
+    requires { ⌜ n ≤ length (now spns) ⌝ }
+    ensures { λ r. ⌜ r ≡ lowest (λ i. eqb (getD (now (spns .entry)) i 0) spn) n ⌝ }
+{
+    let mut i = 0;
+    while i < n {
+        if spns[i as usize] == spn {
+            return i + 1;
+        }
+        i += 1;
+    }
+    0
+}
+
+// A refusal of find.
+fn refused(answer: Answer) -> Found
+    ensures { λ r. ⌜ foundIn r ≡ notFound (inNumbers answer) ⌝ }
+{
+    Found {
+        answer,
+        position: 0,
+        start: 0,
+        width: 0,
+    }
+}
+
+// Finds an SPN in the map of a row.
+fn find_row(row: &[u64], spn: u32) -> Found
+    requires { ⌜ length (now row) ≡ rowWords ⌝ }
+    ensures { λ r. ⌜ foundIn r ≡ foundBy widthOf (rowMap (now (row .entry))) spn ⌝ }
+{
+    let mut spns = [0u32; POSITIONS];
+    let mut starts = [0u32; POSITIONS];
+    let mut widths = [0u32; POSITIONS];
+    let judgement = judge_row(row, &mut spns, &mut starts, &mut widths);
+    if answers::number_of(judgement) != 0 { // 12, before 18
+        return refused(answers::not_usable(judgement));
+    }
+    let position = position_in(&spns, n_of(row[FORM]), spn);
+    if position == 0 {
+        return refused(answers::plainly(18));
+    }
+    let i = (position - 1) as usize;
+    let answer = answers::plainly(0);
+    Found {
+        answer,
+        position,
+        start: starts[i],
+        width: widths[i],
+    }
+}
+
+// ---- the calls
+
+// The row of a key, with no word where the key is not held; the table's length, which its type says, is handed on with it.
+fn row_of(t: &[u64; WORDS], source: u8, destination: u8, k: u8) -> &[u64]
+    ensures { λ r. ⌜ (now r ≡ rowFor (now (t .entry)) (keyOf source destination k)) × (length (now (t .entry)) ≡ tableWords) ⌝ }
+{
+    let words = &t[..];
+    let i = table::slot_of(t, table::key_number(source, destination, k));
+    if ROWS <= i {
+        return &words[..0];
+    }
+    let a = i * ROW_WORDS;
+    let e = a + ROW_WORDS;
+    &words[a..e]
+}
+
+// Judges a key's map: 11, else 0 with the judgement.
+pub fn judge(t: &[u64; WORDS], source: u8, destination: u8, k: u8) -> Answer
+    ensures { λ r. ⌜ inNumbers r ≡ judgedBy widthOf (mapIn (now (t .entry)) (keyOf source destination k)) ⌝ }
+{
+    let row = row_of(t, source, destination, k);
+    if row.len() == 0 {
+        return answers::plainly(11);
+    }
+    let mut spns = [0u32; POSITIONS];
+    let mut starts = [0u32; POSITIONS];
+    let mut widths = [0u32; POSITIONS];
+    answers::judgement_is(judge_row(row, &mut spns, &mut starts, &mut widths))
+}
+
+// Packs numbers by a key's map into the first L bytes of `out`: 11, 12, 13, 14, else 0 with L. Every test is made before the first byte is
+// written.
+pub fn pack(
+    t: &[u64; WORDS],
+    source: u8,
+    destination: u8,
+    k: u8,
+    numbers: &[u32],
+    out: &mut [u8],
+) -> Answer
+    ensures { λ r. ⌜ outcome (inNumbers r) (now (out .exit))
+        ≡ packedBy widthOf (mapIn (now (t .entry)) (keyOf source destination k)) (now (numbers .entry)) (now (out .entry)) ⌝ }
+{
+    let row = row_of(t, source, destination, k);
+    if row.len() == 0 {
+        return answers::plainly(11);
+    }
+    pack_row(row, numbers, out)
+}
+
+// Reads a payload by a key's map into the first n places of `room`: 11, 12, 13, else 0 with n. Every test is made before the first number is
+// written.
+pub fn read(
+    t: &[u64; WORDS],
+    source: u8,
+    destination: u8,
+    k: u8,
+    payload: &[u8],
+    room: &mut [u32],
+) -> Answer
+    ensures { λ r. ⌜ outcome (inNumbers r) (now (room .exit))
+        ≡ readBy widthOf (mapIn (now (t .entry)) (keyOf source destination k)) (now (payload .entry)) (now (room .entry)) ⌝ }
+{
+    let row = row_of(t, source, destination, k);
+    if row.len() == 0 {
+        return answers::plainly(11);
+    }
+    read_row(row, payload, room)
+}
+
+// Finds an SPN in a key's map: 11, 12, 18, else 0 with position, start and width.
+pub fn find(t: &[u64; WORDS], source: u8, destination: u8, k: u8, spn: u32) -> Found
+    ensures { λ r. ⌜ foundIn r ≡ foundBy widthOf (mapIn (now (t .entry)) (keyOf source destination k)) spn ⌝ }
+{
+    let row = row_of(t, source, destination, k);
+    if row.len() == 0 {
+        return refused(answers::plainly(11));
+    }
+    find_row(row, spn)
+}
