@@ -7,8 +7,10 @@ use Rattle.answers.specs.declared.Answer.{Answer}
 use Rattle.message.specs.declared.Key.{Key}
 use Rattle.firmware.specs.declared.Told.{Told}
 use Rattle.ask.specs.Ask.{Finding}
+use Rattle.listing.specs.declared.Tally.{Tally}
 use Rattle.firmware.specs.declared.Held.{Held}
 use Rattle.firmware.specs.declared.Located.{Located}
+use Rattle.firmware.specs.declared.Log.{Log}
 
 -- an answer: its four fields are the four of `Said`
 abbrev pub saidTo : Told → Said
@@ -26,3 +28,11 @@ findingTo f = record { answer = saidTo (f .told); position = f .position; start 
 abbrev pub heldOf : Option Key → Held
 heldOf (some k) = record { held = 1; source = k .source; destination = k .destination; k = k .k }
 heldOf none = record { held = 0; source = 0; destination = 0; k = 0 }
+
+-- what is kept of a log
+abbrev pub tallyIn : Log → Tally
+tallyIn l = record {
+  counts = record { records = l .records; refused = l .refused; other = l .other };
+  left = l .left;
+  carry = l .carry;
+}

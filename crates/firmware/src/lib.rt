@@ -9,11 +9,15 @@ ghost use Rattle.table.specs.Next.{keyFound, firstKey, nextKey};
 ghost use Rattle.table.specs.View.{mapIn};
 ghost use Rattle.dictionary.specs.Dictionary.{widthOf};
 ghost use Rattle.ask.specs.Ask.{judgedBy, packedBy, readBy, foundIn, foundBy};
+ghost use Rattle.listing.specs.Feed.{started, fed, feeding};
+ghost use Rattle.listing.specs.Page.{finished};
 ghost use Rattle.ports.specs.declared.Command.the-variants.{Add, Delete, Clear, SetMode};
 ghost use Rattle.ports.specs.Filters.{commanded, decided, freshWords};
-ghost use Rattle.firmware.specs.Told.{saidTo, toldOf, heldOf, findingTo};
+ghost use Rattle.firmware.specs.Told.{saidTo, toldOf, heldOf, findingTo, tallyIn};
 use answers::Answer;
 use ask::Found;
+use listing::Counts;
+use listing::Tally;
 use table::Next;
 
 // An answer in 01's numbers: judgement and position are 0 but for 12 and for 0 of judging, where they are the detail.
@@ -90,6 +94,47 @@ fn key_in_c(next: Next) -> Held
     }
 }
 
+// What is kept of a log from chunk to chunk: its counts, and the first `left` bytes of a record that is not whole yet.
+#[repr(C)]
+pub struct Log {
+    pub records: u64,
+    pub refused: u64,
+    pub other: u64,
+    pub left: usize,
+    pub carry: [u8; 13],
+}
+
+// A tally as C keeps it.
+fn log_of(tally: Tally) -> Log
+    ensures { λ r. ⌜ tallyIn r ≡ tally ⌝ }
+{
+    let counts = tally.counts;
+    let carry = tally.carry;
+    Log {
+        records: counts.records,
+        refused: counts.refused,
+        other: counts.other,
+        left: tally.left,
+        carry,
+    }
+}
+
+// The tally that C kept.
+fn tally_of(log: Log) -> Tally
+    ensures { λ r. ⌜ r ≡ tallyIn log ⌝ }
+{
+    let carry = log.carry;
+    Tally {
+        counts: Counts {
+            records: log.records,
+            refused: log.refused,
+            other: log.other,
+        },
+        left: log.left,
+        carry,
+    }
+}
+
 // ---- the learned table
 
 // Makes an empty table of any words.
@@ -163,7 +208,13 @@ pub extern "C" fn yendrolf_table_read(
 
 // Finds an SPN in a key's map.
 #[no_mangle]
-pub extern "C" fn yendrolf_table_find(t: &[u64; 1072], source: u8, destination: u8, k: u8, spn: u32) -> Located
+pub extern "C" fn yendrolf_table_find(
+    t: &[u64; 1072],
+    source: u8,
+    destination: u8,
+    k: u8,
+    spn: u32,
+) -> Located
     ensures { λ r. ⌜ findingTo r ≡ foundBy widthOf (mapIn (now (t .entry)) (keyOf source destination k)) spn ⌝ }
 {
     found_in_c(ask::find(t, source, destination, k, spn))
@@ -188,6 +239,32 @@ pub extern "C" fn yendrolf_table_next_key(
     ensures { λ r. ⌜ r ≡ heldOf (nextKey (now (t .entry)) (keyOf source destination k)) ⌝ }
 {
     key_in_c(table::next_key(t, source, destination, k))
+}
+
+// ---- the listing of a log
+
+// Nothing read yet.
+#[no_mangle]
+pub extern "C" fn yendrolf_log_start() -> Log
+    ensures { λ r. ⌜ tallyIn r ≡ started ⌝ }
+{
+    log_of(listing::start())
+}
+
+// Takes the next chunk of a log.
+#[no_mangle]
+pub extern "C" fn yendrolf_table_feed(t: &mut [u64; 1072], log: Log, chunk: &[u8]) -> Log
+    ensures { λ r. ⌜ fed (now (t .exit)) (tallyIn r) ≡ feeding (now (t .entry)) (tallyIn log) (now (chunk .entry)) ⌝ }
+{
+    log_of(listing::feed(t, tally_of(log), chunk))
+}
+
+// Lays the listing over the start of `text`.
+#[no_mangle]
+pub extern "C" fn yendrolf_table_finish(t: &[u64; 1072], log: Log, text: &mut [u8]) -> Told
+    ensures { λ r. ⌜ outcome (saidTo r) (now (text .exit)) ≡ finished (now (t .entry)) (tallyIn log) (now (text .entry)) ⌝ }
+{
+    in_c(listing::finish(t, tally_of(log), text))
 }
 
 // ---- the filters
