@@ -130,43 +130,47 @@ def length_of(placed):
     return max([8] + [(start + width + 7) // 8 for start, width in placed])
 
 
-def judge_map(n, transport, places, widths=WIDTHS):
-    """The judgement and its position of a map without a conflict: places[p - 1] is the (SPN, start) of position p, or
-    None where it is missing. 'The first of these that applies, with its lowest position.'"""
-    positions = range(1, n + 1)
-    spn = lambda p: places[p - 1][0]
-    start = lambda p: places[p - 1][1]
-    width = lambda p: widths[spn(p)]
+def judge_map(n, transport, rows):
+    """The judgement and its position of a map without a conflict: rows[p - 1] is the (SPN, start, width) of position p, with
+    width 0 where the dictionary hasn't the SPN, or None where the position is missing. 'The first of these that applies,
+    with its lowest position.'"""
+    spn = lambda p: rows[p - 1][0]
+    start = lambda p: rows[p - 1][1]
+    width = lambda p: rows[p - 1][2]
     bits = lambda p: set(taken_bits(start(p), width(p)))
     rules = [
-        (2, lambda p: places[p - 1] is None),
-        (3, lambda p: spn(p) not in widths),
+        (2, lambda p: rows[p - 1] is None),
+        (3, lambda p: width(p) == 0),
         (4, lambda p: any(spn(q) == spn(p) for q in range(1, p))),
         (5, lambda p: p > 1 and not start(p) > start(p - 1)),
         (6, lambda p: any(bits(q) & bits(p) for q in range(1, p))),
         (7, lambda p: start(p) + width(p) > 14280),
     ]
     for number, applies in rules:
-        for p in positions:
+        for p in range(1, n + 1):
             if applies(p):
                 return number, p
-    longer = length_of([(start(p), width(p)) for p in positions]) > 8
+    longer = length_of([row[1:] for row in rows[:n]]) > 8
     if (transport == 1) != longer:
         return 8, 0
     return 0, 0
 
 
+CONFLICT = "in conflict"
+
+
 def map_of(messages):
-    """The map of a set without a contradiction: n, the transport flag, and what stands at each position."""
-    said = {m.position: (m.spn, m.start) for m in messages}
+    """What a key's messages make: CONFLICT, or n, the transport flag and what stands at each position."""
+    if in_conflict(messages):
+        return CONFLICT
+    said = {m.position: (m.spn, m.start, WIDTHS.get(m.spn, 0)) for m in messages}
     n, transport = messages[0].n, messages[0].transport
     return n, transport, [said.get(p) for p in range(1, n + 1)]
 
 
-def judge_set(messages):
-    if in_conflict(messages):
-        return 1, 0
-    return judge_map(*map_of(messages))
+def judge(held):
+    """The judgement of a key's map: CONFLICT, or n, the transport flag and what stands at each position."""
+    return (1, 0) if held == CONFLICT else judge_map(*held)
 
 
 # ---- Payload bits, for a list of (start, width) in position order
@@ -235,20 +239,24 @@ class Box:
         del self.sets[key]
         return Answer(0)
 
+    def map(self, key):
+        """The key's map, or None where it is not held."""
+        return map_of(self.sets[key]) if key in self.sets else None
+
     def judge(self, key):
-        if key not in self.sets:
-            return Answer(11)
-        return Answer(0, 0, *judge_set(self.sets[key]))
+        held = self.map(key)
+        return Answer(11) if held is None else Answer(0, 0, *judge(held))
 
     def usable(self, key):
         """Answers 11 and 12, or None and the key's (SPN, start, width) in position order."""
-        if key not in self.sets:
+        held = self.map(key)
+        if held is None:
             return Answer(11), None
-        judged = judge_set(self.sets[key])
+        judged = judge(held)
         if judged != (0, 0):
             return Answer(12, 0, *judged), None
-        n, transport, places = map_of(self.sets[key])
-        return None, [(spn, start, WIDTHS[spn]) for spn, start in places]
+        n, transport, rows = held
+        return None, rows
 
     def pack(self, key, numbers, buffer):
         refused, rows = self.usable(key)
@@ -347,9 +355,9 @@ def listing(log):
         answers.append(box.learn(int.from_bytes(record[:4], "little"), record[4], record[5:]).number)
     lines = ["SRC DST MSG N JUDGED AT"]
     for key in box.keys():
-        judged, position = judge_set(box.sets[key])
-        n = 0 if in_conflict(box.sets[key]) else box.sets[key][0].n
-        lines.append("%d %d %d %d %d %d" % (*key, n, judged, position))
+        held = box.map(key)
+        n = 0 if held == CONFLICT else held[0]
+        lines.append("%d %d %d %d %d %d" % (*key, n, *judge(held)))
     refused = sum(answers.count(number) for number in (1, 3, 4, 5, 6, 7, 8, 9))
     lines.append("RECORDS %d REFUSED %d OTHER %d LEFT %d" % (whole, refused, answers.count(2), len(log) - 13 * whole))
     return "".join(line + "\n" for line in lines)

@@ -23,7 +23,7 @@ place-lt : (s w j : ℕ) → j < w → place s w j < endOf s w
 unfolding place endOf
 place-lt s w j h = omega arith
 
--- ---- today a parameter is one run: what `put`, `get`, `shares` and `end_bit` rest on
+-- ---- a parameter is one run: what `put`, `get`, `shares` and `end_bit` rest on
 pub place-run : (s w v p b : ℕ) → laid (λ i. s + i) (bitOf v) w p b ≡ laid (place s w) (bitOf v) w p b
 unfolding place
 place-run s w v p b = refl

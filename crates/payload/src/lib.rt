@@ -220,10 +220,10 @@ fn too_wide(widths: &[u32], numbers: &[u32]) -> u8
 fn fill(out: &mut [u8])
     ensures { λ _. ⌜ now (out .exit) ≡ tabulate (λ _. 255) (length (now (out .entry))) ⌝ }
 {
-    let mut i = 0;
-    while i < out.len() {
-        out[i] = 255;
-        i += 1;
+    let mut k = 0;
+    while k < out.len() {
+        out[k] = 255;
+        k += 1;
     }
 }
 

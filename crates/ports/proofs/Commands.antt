@@ -11,6 +11,7 @@ use lib.Dec.{eqb}
 use lib.ListN.{length, getD, replicate, length-replicate}
 use Rattle.words.specs.Rows.{rowAt, putAt}
 use Rattle.words.specs.Runs.{only, fold, Keyed}
+use Rattle.words.proofs.Tests.{test}
 use Rattle.words.proofs.Rows.{length-rowAt, rowAt-getD, length-putAt, rowAt-putAt, rowAt-putAt-other, putAt-same}
 use Rattle.words.proofs.Runs.{own-events, kept-all}
 use Rattle.answers.specs.Answers.{plain}
@@ -20,7 +21,7 @@ use Rattle.ports.specs.Filters.{modeIn, countIn, placeIn, listedIn, pair
 use Rattle.ports.specs.Calls.{Ask, Order, Decide, Call, calledBy, called, wordsAfter, answerOf, asked, names, pairAfter}
 use Rattle.ports.proofs.Numbers.{number-fits, number-own}
 use Rattle.ports.proofs.Calls.{all-fresh}
-use Rattle.ports.proofs.Lists.{test, same-pair, count-most, count-is, place-holds, listed-at, row-long, Tidy, row-steps}
+use Rattle.ports.proofs.Lists.{same-pair, count-most, count-is, place-holds, listed-at, row-long, Tidy, row-steps}
 
 -- ---- the words of every moment
 
@@ -179,10 +180,12 @@ keyed = record {
 -- the words mean, of each pair, what its own calls made of a fresh pair
 pub pair-is : (h : List Call) (f t : ℕ) → twoPorts f t ≡ true → pairAt (wordsAfter h) f t ≡ pairAfter h f t
 pair-is h f t y =
-    own-events _ _ _ _ keyed h (record { from = f; to = t; good = y }) ∙ ap (λ (l : List Call). fold (λ p c. asked p (c .ask)) freshPair (only (names f t) l)) (kept-all _ (λ g c. refl) h)
+    own-events _ _ _ _ keyed h (record { from = f; to = t; good = y })
+    ∙ ap (λ (l : List Call). fold (λ p c. asked p (c .ask)) freshPair (only (names f t) l)) (kept-all _ (λ g c. refl) h)
 
 -- THE THEOREM: the answer to any call after any run
-pub answered : (h : List Call) (c : Call) → called (wordsAfter h) c .answer ≡ cond (twoPorts (c .from) (c .to)) (answerOf (pairAfter h (c .from) (c .to)) (c .ask)) (plain 15)
+pub answered : (h : List Call) (c : Call)
+    → called (wordsAfter h) c .answer ≡ cond (twoPorts (c .from) (c .to)) (answerOf (pairAfter h (c .from) (c .to)) (c .ask)) (plain 15)
 answered h c =
     call-answer (wordsAfter h) (run-sound h) (c .from) (c .to) (c .ask)
     ∙ test (twoPorts (c .from) (c .to)) (λ y. rw (y, pair-is h (c .from) (c .to) y)) (λ n. rw n)

@@ -9,23 +9,14 @@ use borrow.Author.Tests.{ltb-true, ltb-false, eqb-true, eqb-false, lt-ltb, le-lt
 use lib.Dec.{eqb, ltb}
 use lib.ListN.{length, getD, set, length-set}
 use lib.Seq.{getD-set-same, getD-set-other}
+use Rattle.words.proofs.Tests.{test, same-test}
 use Rattle.words.proofs.First.{first-same, first-holds, first-below}
 use Rattle.ports.specs.declared.Command.{Command}
 use Rattle.ports.specs.declared.Command.the-variants.{Add, Delete, Clear, SetMode}
 use Rattle.ports.specs.Pairs.{Pair, pair, illFormed, numberOf, obeyed, stepPair}
 use Rattle.ports.specs.Filters.{modeIn, countIn, placeIn, listedIn, pairIn, rewritten, rowAfter, Once}
 
--- ---- tests
-
--- a test by its two answers
-pub test {ℓ} : {X : Type ℓ} (b : Bool) → (b ≡ true → X) → (b ≡ false → X) → X
-test true f g = f refl
-test false f g = g refl
-
-same-test : (a b : Bool) → (a ≡ true → b ≡ true) → (b ≡ true → a ≡ true) → a ≡ b
-same-test true b f g = sym (f refl)
-same-test false true f g = g refl
-same-test false false f g = refl
+-- ---- answers 0
 
 -- an answer 0 behind a refusal that was tested before it
 past : (b : Bool) {n x : ℕ} → 0 < n → cond b n x ≡ 0 → x ≡ 0

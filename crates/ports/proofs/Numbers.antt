@@ -53,17 +53,27 @@ number-fits f t e = go (two f t e) (decLt t f)
     go b (yes h) = omega (arith, number-above f t e h)
     go b (no h) = omega (arith, number-below f t e (omega arith))
 
-pub number-own : (f t f′ t′ : ℕ) → twoPorts f t ≡ true → twoPorts f′ t′ ≡ true → pairOf f t ≡ pairOf f′ t′ → (f ≡ f′) × (t ≡ t′)
+pub number-own : (f t f′ t′ : ℕ) → twoPorts f t ≡ true → twoPorts f′ t′ ≡ true
+    → pairOf f t ≡ pairOf f′ t′ → (f ≡ f′) × (t ≡ t′)
 number-own f t f′ t′ e e′ q = go (two f t e) (two f′ t′ e′) (decLt t f) (decLt t′ f′)
   where
     go : Two f t → Two f′ t′ → Dec (t < f) → Dec (t′ < f′) → (f ≡ f′) × (t ≡ t′)
-    go b b′ (yes h) (yes h′) = (omega (arith, number-above f t e h, number-above f′ t′ e′ h′), omega (arith, number-above f t e h, number-above f′ t′ e′ h′))
-    go b b′ (yes h) (no h′) = let g : f′ ≤ t′ = omega arith in (omega (arith, number-above f t e h, number-below f′ t′ e′ g), omega (arith, number-above f t e h, number-below f′ t′ e′ g))
-    go b b′ (no h) (yes h′) = let g : f ≤ t = omega arith in (omega (arith, number-below f t e g, number-above f′ t′ e′ h′), omega (arith, number-below f t e g, number-above f′ t′ e′ h′))
+    go b b′ (yes h) (yes h′) =
+        let p = number-above f t e h in
+        let p′ = number-above f′ t′ e′ h′ in
+        (omega arith, omega arith)
+    go b b′ (yes h) (no h′) =
+        let p = number-above f t e h in
+        let p′ = number-below f′ t′ e′ (omega arith) in
+        (omega arith, omega arith)
+    go b b′ (no h) (yes h′) =
+        let p = number-below f t e (omega arith) in
+        let p′ = number-above f′ t′ e′ h′ in
+        (omega arith, omega arith)
     go b b′ (no h) (no h′) =
-        let g : f ≤ t = omega arith in
-        let g′ : f′ ≤ t′ = omega arith in
-        (omega (arith, number-below f t e g, number-below f′ t′ e′ g′), omega (arith, number-below f t e g, number-below f′ t′ e′ g′))
+        let p = number-below f t e (omega arith) in
+        let p′ = number-below f′ t′ e′ (omega arith) in
+        (omega arith, omega arith)
 
 -- the test of the ports by the number
 pub by-number : (f t : ℕ) → twoPorts f t ≡ ltb (pairOf f t) 12

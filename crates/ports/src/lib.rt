@@ -8,14 +8,17 @@ ghost use Rattle.ports.specs.Pairs.{illFormed, passes};
 ghost use Rattle.ports.specs.Filters.{modeIn, countIn, placeIn, noted, rowObeys, obeysAt, rowPasses, twoPorts, pairOf, freshWords, commanded, decided};
 use answers::Answer;
 
-// The pairs and the words of each.
+// How many pairs there are.
 pub const PAIRS: usize = 12;
 
+// How many words a pair has: its mode, its count and its list.
 pub const WIDTH: usize = 34;
 
+// How many words the caller lends.
 pub const WORDS: usize = 408;
+
 // How many PGNs a list holds.
-pub const ROOM: u32 = 32;
+pub const ROOM: usize = 32;
 
 // What changes a pair.
 pub enum Command {
@@ -52,11 +55,11 @@ fn count_of(row: &[u32]) -> usize
     requires { ⌜ length (now row) ≡ 34 ⌝ }
     ensures { λ r. ⌜ (r ≡ countIn (now (row .entry))) × (r ≤ 32) ⌝ }
 {
-    let n = row[1];
+    let n = row[1] as usize;
     if ROOM < n {
-        return 32;
+        return ROOM;
     }
-    n as usize
+    n
 }
 
 // The lowest place at which a row lists the PGN, or how many it lists.
@@ -87,7 +90,7 @@ fn add_row(row: &mut [u32], pgn: u32) -> u8
     if place_of(row, pgn) < n {
         return 0;
     }
-    if n < 32 {
+    if n < ROOM {
         row[2 + n] = pgn;
         row[1] = n as u32 + 1;
         return 0;
@@ -252,6 +255,7 @@ pub fn fresh(w: &mut [u32; WORDS])
     clear_words(w)
 }
 
+// Writes 0 into every word.
 fn clear_words(w: &mut [u32])
     requires { ⌜ length (now w) ≡ 408 ⌝ }
     ensures { λ r. ⌜ now (w .exit) ≡ freshWords ⌝ }

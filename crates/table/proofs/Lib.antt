@@ -1,3 +1,16 @@
 pub mod Words
-pub mod Frames
+pub mod RowKeys
+pub mod View
 pub mod RowMaps
+pub mod Frames
+pub mod KeyNumbers
+pub mod Learning
+pub mod Forgetting
+pub mod Refusals
+pub mod Lowest
+pub mod Walk
+pub mod Sane
+pub mod Count
+pub mod Events
+pub mod Histories
+pub mod RunsOfCalls

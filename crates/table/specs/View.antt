@@ -1,16 +1,17 @@
 -- What the words hold of a key, as a map: total on any words, also on those that no run of calls produces.
 -- Assumes nothing.
-use Prim.Native.Nat.{ℕ, _-_, _/_, _%_, _^_}
-use mathlib.Core.Bool.{Bool, cond, _&&_}
+use Prim.Native.Nat.{ℕ, zero, suc, _-_, _/_, _%_, _^_}
+use mathlib.Core.Bool.{cond, _&&_}
 use mathlib.Core.Option.{Option, none, some}
-use mathlib.Core.List.{List}
+use mathlib.Core.List.{List, [], _∷_}
 use lib.Dec.{eqb, leb, ltb}
+use lib.ListN.{length}
 use Rattle.message.specs.declared.Key.{Key}
 use Rattle.message.specs.declared.Head.{Head}
 use Rattle.message.specs.declared.Place.{Place}
 use Rattle.maps.specs.Maps.{Map, Nothing, Conflict, Held}
 use Rattle.history.specs.History.{mostKeys}
-use Rattle.table.specs.Layout.{positions, keyNumber, stateWord, formWord, cellWord, rowOf, slotOf}
+use Rattle.table.specs.Layout.{positions, keyNumber, keyNamed, stateWord, keyWord, formWord, cellWord, rowOf, slotOf}
 
 -- n and the flags of a form
 abbrev pub headOf : ℕ → Head
@@ -31,3 +32,13 @@ rowMap r = cond (eqb (stateWord r) 1) (Held (headOf (formWord r)) (placeIn r)) C
 -- the map of a key: that of the lowest row that holds it
 unfoldable pub mapIn : List ℕ → Key → Map
 mapIn t k = cond (ltb (slotOf t (keyNumber k)) mostKeys) (rowMap (rowOf t (slotOf t (keyNumber k)))) Nothing
+
+-- ---- how many keys are held
+
+-- the keys of the rows that are not free, of the first n rows
+unfoldable pub keysTo : List ℕ → ℕ → List Key
+keysTo t zero = []
+keysTo t (suc i) = cond (eqb (stateWord (rowOf t i)) 0) (keysTo t i) (keyNamed (keyWord (rowOf t i)) ∷ keysTo t i)
+
+abbrev pub keyCount : List ℕ → ℕ
+keyCount t = length (keysTo t mostKeys)

@@ -1,3 +1,4 @@
+pub mod Tests
 pub mod First
 pub mod Rows
 pub mod Slots

@@ -1,1 +1,1 @@
-// Definitions and laws that other crates cite: searches, rows of words, tables of slots, runs. It has no function.
+// Definitions and laws that other crates cite: tests, searches, rows of words, tables of slots, runs. It has no function.

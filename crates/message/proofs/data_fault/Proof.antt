@@ -1,3 +1,5 @@
+-- `message::data_fault` meets its contract: the tests put together.
+-- Assumes nothing.
 use borrow.Author.Needs.{needs}
 use Rattle.message.proofs.data_fault.Statement.{statement}
 use Rattle.message.proofs.data_fault.Tie as tie

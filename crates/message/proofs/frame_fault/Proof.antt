@@ -1,3 +1,5 @@
+-- `message::frame_fault` meets its contract: the tests put together.
+-- Assumes nothing.
 use borrow.Author.Needs.{needs}
 use Rattle.message.proofs.frame_fault.Statement.{statement}
 use Rattle.message.proofs.frame_fault.Tie as tie

@@ -1,3 +1,5 @@
+-- `message::from_bytes` meets its contract: the two three-byte numbers are what frame promises of them, the rest is the definition itself.
+-- Assumes nothing.
 use borrow.Author.Needs.{needs}
 use Rattle.message.proofs.from_bytes.Statement.{statement}
 use Rattle.message.proofs.from_bytes.Tie as tie

@@ -1,3 +1,5 @@
+-- `message::from_wire` meets its contract: by the test of the refusal.
+-- Assumes nothing.
 use borrow.Author.Tests.{ne-eqb}
 use borrow.Author.Needs.{needs}
 use Rattle.message.proofs.from_wire.Statement.{statement}

@@ -1,3 +1,5 @@
+-- `message::kept` meets its contract: the fields put together.
+-- Assumes nothing.
 use borrow.Author.Needs.{needs}
 use Rattle.message.proofs.kept.Statement.{statement}
 use Rattle.message.proofs.kept.Tie as tie

@@ -1,4 +1,4 @@
--- `bytes_for`. Assumes nothing.
+-- `bytes_for`: up to bit 64 the 8 bytes, above it the quotient rounded up. Assumes nothing.
 use native.Mathlib.Omega.{arith}
 use borrow.Author.Needs.{needs}
 use Rattle.payload.specs.Place.{bytesFor}

@@ -1,4 +1,4 @@
--- `end_bit`: today the end is the sum. Assumes nothing.
+-- `end_bit`: the end is the sum. Assumes nothing.
 use mathlib.Core.Path.{sym}
 use borrow.Author.Needs.{needs}
 use Rattle.payload.proofs.Place.{end-run}

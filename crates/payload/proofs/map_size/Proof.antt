@@ -1,4 +1,4 @@
--- `map_size`. Assumes nothing.
+-- `map_size`: the bytes for the largest end. Assumes nothing.
 use mathlib.Core.Path.{ap, _∙_}
 use native.Mathlib.Omega.{arith}
 use denote.Ref.{now}

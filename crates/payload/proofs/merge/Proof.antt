@@ -11,7 +11,12 @@ use Rattle.payload.proofs.Replace.{one-shl, mask-low, under, merged-lt,
 use Rattle.payload.proofs.merge.Statement.{statement}
 use Rattle.payload.proofs.merge.Tie as tie
 
--- what each of the three locals holds
+-- what the code adds up
+abbrev sum : ℕ → ℕ → ℕ → ℕ → ℕ
+sum old off n v =
+    (old / 2 ^ (off + n) * 2 ^ (off + n)) % 2 ^ 32
+    + ((bitAnd v ((1 * 2 ^ n) % 2 ^ 32 - 1) * 2 ^ off) % 2 ^ 32 + bitAnd old ((1 * 2 ^ off) % 2 ^ 32 - 1))
+
 module _ (old off n v : ℕ) (h : off + n ≤ 8) (l : old < 256) where
   low-is : bitAnd old ((1 * 2 ^ off) % 2 ^ 32 - 1) ≡ old % 2 ^ off
   low-is = mask-low old off (omega arith)
@@ -22,11 +27,10 @@ module _ (old off n v : ℕ) (h : off + n ≤ 8) (l : old < 256) where
   high-is : (old / 2 ^ (off + n) * 2 ^ (off + n)) % 2 ^ 32 ≡ old / 2 ^ (off + n) * 2 ^ (off + n)
   high-is = mod-eq-of-lt (omega (arith, merged-lt old off n v h l))
 
-  sum-is : (old / 2 ^ (off + n) * 2 ^ (off + n)) % 2 ^ 32 + ((bitAnd v ((1 * 2 ^ n) % 2 ^ 32 - 1) * 2 ^ off) % 2 ^ 32 + bitAnd old ((1 * 2 ^ off) % 2 ^ 32 - 1))
-      ≡ old / 2 ^ (off + n) * 2 ^ (off + n) + under old off n v
+  sum-is : sum old off n v ≡ old / 2 ^ (off + n) * 2 ^ (off + n) + under old off n v
   sum-is = rw (high-is, mid-is, low-is)
 
-  sum-lt : (old / 2 ^ (off + n) * 2 ^ (off + n)) % 2 ^ 32 + ((bitAnd v ((1 * 2 ^ n) % 2 ^ 32 - 1) * 2 ^ off) % 2 ^ 32 + bitAnd old ((1 * 2 ^ off) % 2 ^ 32 - 1)) < 256
+  sum-lt : sum old off n v < 256
   sum-lt = rw sum-is (merged-lt old off n v h l)
 
 sub-low : tie.Need-sub-low
@@ -51,4 +55,5 @@ returns c =
 pub merge-spec : {M : Type 1} → statement M
 merge-spec =
     tie.close
-    (tie.spec (λ c. search needs) sub-low (λ c. search needs) sub-mid (λ c. search needs) (λ c. search needs) (λ c. search needs) (λ c. search needs) (λ c. search needs) add-result add-result-2 returns)
+    (tie.spec (λ c. search needs) sub-low (λ c. search needs) sub-mid (λ c. search needs) (λ c. search needs)
+    (λ c. search needs) (λ c. search needs) (λ c. search needs) add-result add-result-2 returns)

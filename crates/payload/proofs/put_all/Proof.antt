@@ -1,14 +1,13 @@
-use Rattle.payload.proofs.Laws.{laid-turn}
--- `put_all`. Assumes nothing.
-use mathlib.Core.Path.{_≡_, refl, ap, _∙_}
+-- `put_all`: after i turns the numbers of the first i parameters are laid. Assumes nothing.
+use mathlib.Core.Path.{_≡_, refl}
 use Prim.Native.Nat.{ℕ, _-_, _≤_}
 use native.Mathlib.Omega.{arith}
 use denote.Ref.{now}
-use lib.ListN.{length, getD}
+use lib.ListN.{length}
 use borrow.Author.Needs.{needs}
-use Rattle.payload.specs.Bits.{bitAt, bitOf, laid}
+use Rattle.payload.specs.Bits.{bitAt}
 use Rattle.payload.specs.Payload.{laidAll}
-use Rattle.payload.specs.Place.{place}
+use Rattle.payload.proofs.Laws.{laid-turn}
 use Rattle.payload.proofs.Placed.{placed-widths, placed-in}
 use Rattle.payload.proofs.put_all.Statement.{statement}
 use Rattle.payload.proofs.put_all.Tie as tie
@@ -47,4 +46,6 @@ returns c = let e : c .before .loop .i ≡ length (now (c .before .before .befor
 pub put-all-spec : {M : Type 1} → statement M
 put-all-spec =
     tie.close
-    (tie.spec Inv-loop μ-loop loop-holds (λ c. search needs) (λ c. search needs) (λ c. search needs) (λ c. search needs) (λ c. search needs) (λ c. search needs) put-requires (λ c. search needs) (λ c. search needs) loop-again (λ c. search needs) returns)
+    (tie.spec Inv-loop μ-loop loop-holds (λ c. search needs) (λ c. search needs) (λ c. search needs) (λ c. search needs)
+    (λ c. search needs) (λ c. search needs) put-requires (λ c. search needs) (λ c. search needs) loop-again
+    (λ c. search needs) returns)

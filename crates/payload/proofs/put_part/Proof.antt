@@ -21,4 +21,5 @@ returns c =
 pub put-part-spec : {M : Type 1} → statement M
 put-part-spec =
     tie.close
-    (tie.spec (λ c. search needs) (λ c. search needs) cast-old merge-requires (λ c. search needs) (λ c. search needs) (λ c. search needs) returns)
+    (tie.spec (λ c. search needs) (λ c. search needs) cast-old merge-requires (λ c. search needs) (λ c. search needs)
+    (λ c. search needs) returns)

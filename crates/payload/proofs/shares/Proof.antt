@@ -1,4 +1,4 @@
--- `shares`: today a parameter is one run. Assumes nothing.
+-- `shares`: a parameter is one run. Assumes nothing.
 use mathlib.Core.Path.{_∙_}
 use borrow.Author.Needs.{needs}
 use Rattle.payload.proofs.Place.{shares-run}

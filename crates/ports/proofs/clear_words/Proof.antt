@@ -1,3 +1,5 @@
+-- `ports::clear_words` meets its contract: the words passed are 0, and the rest are as they were.
+-- Assumes nothing.
 use Rattle.ports.proofs.Calls.{all-fresh}
 use mathlib.Core.Path.{_≡_, refl, ap, _∙_}
 use Prim.Native.Nat.{ℕ, _≤_, _-_}

@@ -1,3 +1,5 @@
+-- `ports::count_of` meets its contract: the second word, or 32 where it is more.
+-- Assumes nothing.
 use native.Mathlib.Omega.{arith}
 use borrow.Author.Tests.{le-ltb, lt-ltb}
 use borrow.Author.Needs.{needs}
@@ -16,4 +18,4 @@ returns-2 c = (simp (le-ltb _ _ (c .if1 .left)), omega arith)
 pub count-of-spec : {M : Type 1} → statement M
 count-of-spec =
     tie.close
-    (tie.spec (λ c. search needs) returns (λ c. search needs) returns-2)
+    (tie.spec (λ c. search needs) (λ c. omega (arith, c .shared-slice-known .given 1)) returns returns-2)

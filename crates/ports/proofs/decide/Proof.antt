@@ -1,3 +1,5 @@
+-- `ports::decide` meets its contract: 15, 1, or what the pair's row says of the frame's PGN.
+-- Assumes nothing.
 use Rattle.ports.proofs.Calls.{undecided, too-long, decides}
 use borrow.Author.Needs.{needs}
 use Rattle.ports.proofs.decide.Statement.{statement}

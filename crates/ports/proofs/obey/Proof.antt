@@ -1,3 +1,5 @@
+-- `ports::obey` meets its contract: 15, or what the row of the pair's number gives.
+-- Assumes nothing.
 use Rattle.ports.proofs.Calls.{obeyed-at, no-pair}
 use borrow.Author.Needs.{needs}
 use Rattle.ports.proofs.obey.Statement.{statement}

@@ -1,3 +1,5 @@
+-- `ports::obey_at` meets its contract: the row is lent as a part and comes back as a row that is put.
+-- Assumes nothing.
 use Rattle.ports.proofs.Calls.{lent-back}
 use borrow.Author.Needs.{needs}
 use Rattle.ports.proofs.obey_at.Statement.{statement}

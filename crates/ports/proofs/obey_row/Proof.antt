@@ -1,3 +1,5 @@
+-- `ports::obey_row` meets its contract: a command by its case.
+-- Assumes nothing.
 use mathlib.Core.Path.{ap, sym, _∙_}
 use Rattle.ports.specs.Pairs.{numberOf}
 use Rattle.ports.specs.Filters.{rewritten, rowAfter, rowObeys}

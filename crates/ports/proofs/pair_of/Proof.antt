@@ -1,3 +1,5 @@
+-- `ports::pair_of` meets its contract: the number in each of the two orders of the ports, and 12 where they are no pair.
+-- Assumes nothing.
 use mathlib.Core.Path.{sym, _∙_}
 use native.Mathlib.Omega.{arith}
 use Rattle.ports.proofs.Numbers.{two, number-above, number-below, number-none}

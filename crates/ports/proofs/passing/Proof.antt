@@ -1,3 +1,5 @@
+-- `ports::passing` meets its contract: by the mode.
+-- Assumes nothing.
 use borrow.Author.Tests.{eq-eqb, ne-eqb}
 use Rattle.ports.proofs.passing.Statement.{statement}
 use Rattle.ports.proofs.passing.Tie as tie

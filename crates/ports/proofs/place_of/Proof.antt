@@ -1,3 +1,5 @@
+-- `ports::place_of` meets its contract: no place passed has the PGN.
+-- Assumes nothing.
 use mathlib.Core.Path.{_≡_, sym}
 use mathlib.Core.Bool.{false}
 use Prim.Native.Nat.{ℕ, _+_, _≤_, _<_, _-_}

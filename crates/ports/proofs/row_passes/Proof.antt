@@ -1,3 +1,5 @@
+-- `ports::row_passes` meets its contract: the row's mode and whether it lists the PGN.
+-- Assumes nothing.
 use borrow.Author.Needs.{needs}
 use Rattle.ports.proofs.row_passes.Statement.{statement}
 use Rattle.ports.proofs.row_passes.Tie as tie

@@ -1,3 +1,5 @@
+-- `ports::set_mode_row` meets its contract: each answer by the tests on its way: 19, the mode that is there, an empty list, 20.
+-- Assumes nothing.
 use Rattle.ports.specs.Pairs.{numberOf}
 use Rattle.ports.specs.Filters.{rewritten, rowAfter}
 use borrow.Author.Tests.{eq-eqb, le-ltb, lt-ltb, ne-eqb}

@@ -1,3 +1,5 @@
+-- `ports::two_ports` meets its contract: the test of 01, as it stands.
+-- Assumes nothing.
 use borrow.Author.Needs.{needs}
 use Rattle.ports.specs.Filters.{twoPorts}
 use Rattle.ports.proofs.two_ports.Statement.{statement}

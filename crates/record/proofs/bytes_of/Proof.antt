@@ -1,3 +1,5 @@
+-- `record::bytes_of` meets its contract: the definition itself.
+-- Assumes nothing.
 use mathlib.Core.Path.{refl}
 use Rattle.record.specs.Record.{bytesOf}
 use borrow.Author.Needs.{needs}

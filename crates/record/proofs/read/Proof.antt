@@ -1,3 +1,5 @@
+-- `record::read` meets its contract: by the test of the length.
+-- Assumes nothing.
 use borrow.Author.Tests.{lt-ltb, le-ltb}
 use Rattle.record.specs.Record.{recordIn}
 use borrow.Author.Needs.{needs}

@@ -1,3 +1,5 @@
+-- `text::in_decimal` meets its contract: the digits still to come and those written are the number's, at every turn.
+-- Assumes nothing.
 use Rattle.text.proofs.Decimal.{Writing, started, turned, ended, before}
 use native.Mathlib.Omega.{arith}
 use borrow.Author.Needs.{needs}

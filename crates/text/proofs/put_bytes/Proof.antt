@@ -1,3 +1,5 @@
+-- `text::put_bytes` meets its contract: a copy that had room, or none.
+-- Assumes nothing.
 use mathlib.Core.Path.{_≡_, sym, _∙_}
 use Prim.Native.Nat.{_+_}
 use native.Mathlib.Omega.{arith}

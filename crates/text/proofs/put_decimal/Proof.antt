@@ -1,3 +1,5 @@
+-- `text::put_decimal` meets its contract: the digits are the end of the 20 bytes.
+-- Assumes nothing.
 use mathlib.Core.Path.{_≡_, ap, _∙_}
 use Prim.Native.Nat.{_-_, _<_}
 use native.Mathlib.Omega.{arith}

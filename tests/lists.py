@@ -1,0 +1,273 @@
+"""The cases of judging, packing and reading over plain lists, as the rooms maps and payload take them: tags 8 to 10. The lists
+may be shorter or longer than a map needs; what the model is asked then is said in each function."""
+import model
+from dice import TOP, case, line, words
+from model import Answer
+
+MISSING = TOP
+
+
+def cases(dice):
+    for n, transport, spns, starts, widths in judged(dice):
+        rows = rows_of(n, spns, starts, widths)
+        yield asked(8, n, transport, spns, starts, widths), [line(*model.judge_map(n, transport, rows))]
+    for starts, widths, numbers, seed, size in packed(dice):
+        answer, after = pack(starts, widths, numbers, pattern(seed, size))
+        yield (asked(9, 0, 0, [], starts, widths, numbers, seed, size),
+               [line(answer.number, answer.detail, bytes(after).hex())])
+    for starts, widths, payload, room in taken(dice):
+        answer, after = read(starts, widths, payload, room)
+        yield (asked(10, 0, 0, [], starts, widths, room, 0, len(payload)) + bytes(payload),
+               [line(answer.number, answer.detail, *after)])
+
+
+def asked(tag, n, transport, spns, starts, widths, numbers=(), seed=0, size=0):
+    """A case with its lists, but for the payload."""
+    counts = bytes([n, transport, len(spns), len(starts), len(widths), len(numbers), seed])
+    return case(tag, counts + size.to_bytes(2, "little")) + words([*spns, *starts, *widths, *numbers])
+
+
+def pattern(seed, size):
+    """What the program fills a buffer with."""
+    return [(seed + 29 * i) % 256 for i in range(size)]
+
+
+# ---- The model's answers over lists
+
+def rows_of(n, spns, starts, widths):
+    """Position p has the p-th of each list, and is missing where there is no width or the mark for none; an SPN or a start that
+    the lists haven't is 0."""
+    past_end = lambda numbers, p, other: numbers[p - 1] if p <= len(numbers) else other
+    return [None if past_end(widths, p, MISSING) == MISSING else (past_end(spns, p, 0), past_end(starts, p, 0), widths[p - 1])
+            for p in range(1, n + 1)]
+
+
+def placed_of(starts, widths):
+    """Each start with its width, and the lowest position that can't be of a usable map: past 64, with no width of 1 to 32, or
+    with start + width above 14,280."""
+    placed = [(start, widths[i] if i < len(widths) else 0) for i, start in enumerate(starts)]
+    wrong = [p for p, (start, width) in enumerate(placed, 1) if p > 64 or not 1 <= width <= 32 or start + width > 14280]
+    return placed, min(wrong, default=0)
+
+
+def pack(starts, widths, numbers, buffer):
+    """Packing tests 12, 13, 14; of 12 these lists only have the position."""
+    placed, wrong = placed_of(starts, widths)
+    return (Answer(12, wrong), buffer) if wrong else model.pack_places(placed, numbers, buffer)
+
+
+def read(starts, widths, payload, room):
+    placed, wrong = placed_of(starts, widths)
+    return (Answer(12, wrong), room) if wrong else model.read_places(placed, payload, room)
+
+
+# ---- Maps
+
+KNOWN = sorted(model.WIDTHS)
+
+
+def how_many(dice):
+    """A number of parameters: mostly few, sometimes 64."""
+    return dice.one_of([1, 2, dice.within(2, 8), dice.within(2, 8), dice.within(3, 20), dice.within(9, 64), 64])
+
+
+def starts_for(dice, widths, start=0):
+    """Rising starts for these widths, no bit shared: most gaps are none or small."""
+    starts = []
+    for width in widths:
+        start += dice.one_of([0, 0, 0, 1, dice.below(9), dice.below(40)])
+        starts.append(start)
+        start += width
+    return starts
+
+
+def size_of(starts, widths):
+    return model.length_of(list(zip(starts, widths)))
+
+
+def usable(dice, n):
+    """A usable map of n parameters."""
+    spns = dice.some(n, KNOWN)
+    widths = [model.WIDTHS[spn] for spn in spns]
+    starts = starts_for(dice, widths, dice.one_of([0, 0, 0, dice.below(70), dice.below(12000)]))
+    transport = 1 if size_of(starts, widths) > 8 else 0
+    assert model.judge_map(n, transport, rows_of(n, spns, starts, widths)) == (0, 0)
+    return [n, transport, spns, starts, widths]
+
+
+def spoil(dice, number, told):
+    """Earns a judgement at some position, unless another comes first or the map is too small for it."""
+    n, transport, spns, starts, widths = told
+    p = dice.below(n)
+    q = dice.below(p) if p else 0
+    if number == 2:
+        widths[p] = MISSING
+    elif number == 3:
+        spns[p], widths[p] = dice.one_of([0, 521, 2848, dice.one_of(KNOWN) + 2**18, 2**19 - 1]), 0
+    elif number == 4 and p:
+        spns[p], widths[p] = spns[q], widths[q]
+    elif number == 5 and p:
+        starts[p] = dice.one_of([starts[p - 1], max(starts[p - 1] - 1, 0), starts[q], 0])
+    elif number == 6 and p:
+        starts[p] = starts[p - 1] + dice.within(1, max(min(widths[p - 1], 32) - 1, 1))
+    elif number == 7:
+        by = 14281 - starts[p] - widths[p] + dice.one_of([0, 0, 1, 40])
+        for i in range(p, n):
+            starts[i] += max(by, 0)
+    elif number == 8:
+        told[1] = 1 - transport
+
+
+def judged(dice):
+    """n, transport, SPNs, starts and widths to judge."""
+    two = lambda spn: model.WIDTHS.get(spn, 0)
+    # 01's own: 1517 and 1519 beside each other and sharing a bit; 1519 alone at 62 and 63; 1517 alone at 14,272 and 14,273
+    for starts in ((0, 8), (0, 7), (8, 0), (0, 0)):
+        yield 2, 0, [1517, 1519], list(starts), [8, 2]
+    yield 2, 0, [1519, 1517], [0, 4], [2, 8]
+    for spn, start in ((1519, 62), (1519, 63), (1517, 14272), (1517, 14273), (1517, TOP), (1519, 14278), (1519, 14279), (1519, 14280)):
+        yield from ((1, transport, [spn], [start], [two(spn)]) for transport in (0, 1))
+    # 64 positions, and one more; a map that ends at the last bit there is
+    for n in (63, 64, 65):
+        spns = dice.some(n, KNOWN)
+        widths = [two(spn) for spn in spns]
+        starts = starts_for(dice, widths)
+        yield n, 1, spns, starts, widths
+        last = 14280 - starts[-1] - widths[-1]
+        yield n, 1, spns, [start + last for start in starts], widths
+        yield n, 1, spns, [start + last + 1 for start in starts], widths
+        for p in (1, n):
+            yield n, 1, spns, starts, widths[:p - 1] + [MISSING] + widths[p:]
+            yield n, 1, spns[:p - 1] + [TOP] + spns[p:], starts, widths
+    # usable ones, and spoiled ones: one judgement at a time, then several at once
+    for _ in range(300):
+        yield usable(dice, how_many(dice))
+    for number in range(2, 9):
+        for _ in range(100):
+            told = usable(dice, how_many(dice))
+            spoil(dice, number, told)
+            yield told
+    for _ in range(400):
+        told = usable(dice, how_many(dice))
+        for number in dice.some(dice.within(2, 5), range(2, 9)):
+            spoil(dice, number, told)
+        yield told
+    # lists of other lengths than n, and numbers that no message and no dictionary gives
+    for _ in range(300):
+        n, transport, spns, starts, widths = usable(dice, dice.within(1, 12))
+        cut = lambda numbers: numbers[:dice.one_of([n, n, n, n - 1, dice.below(n)])]
+        yield dice.one_of([n, n, n - 1, n + 1, 0, 255]), transport, cut(spns), cut(starts), cut(widths)
+    for _ in range(200):
+        n = dice.within(1, 6)
+        yield (n, dice.below(2), [dice.one_of([dice.below(5), dice.below(2**32)]) for _ in range(n)],
+               sorted(dice.one_of([dice.below(100), dice.below(15000), TOP - dice.below(50)]) for _ in range(n)),
+               [dice.one_of([1, dice.below(9), dice.within(1, 32), 33, dice.within(1, 64)]) for _ in range(n)])
+    yield 0, 0, [], [], []
+    yield 0, 1, [], [], []
+    for spn, start, width in ((TOP, TOP, TOP - 1), (TOP, TOP, TOP), (TOP, 0, 1), (0, 0, TOP)):
+        yield from ((1, transport, [spn], [start], [width]) for transport in (0, 1))
+    yield 2, 0, [TOP, TOP], [0, 1], [1, 1]
+
+
+# ---- Payloads
+
+def number_for(dice, width):
+    """A number that the width holds."""
+    return dice.one_of([0, 1, 2**width - 1, 2 ** (width - 1), dice.below(2**width), dice.below(2**width)])
+
+
+def any_widths(dice, n):
+    return [dice.one_of([1, 2, 8, 16, 19, 24, 32, dice.within(1, 32), dice.within(1, 32)]) for _ in range(n)]
+
+
+def packed(dice):
+    """Starts, widths, numbers, and the seed and size of the buffer."""
+    # 01's A and B, and number 4 for 1519
+    yield [0, 8], [8, 2], [40, 1], 0, 10
+    yield [0, 4], [2, 8], [2, 0xA5], 7, 8
+    yield [0, 8], [8, 2], [40, 4], 7, 9
+    # 5.3.1.8.1: bits 1, 8, 9, 57 and 64; 5.3.1.8.2: 11 bits at wire bit 19 end at bit 29
+    for bit in (1, 8, 9, 57, 64):
+        yield from (([bit - 1], [1], [value], bit, 9) for value in (0, 1))
+    for value in (0, 1, 2**10, 2**11 - 1, 2**11, 0x2AA, 0x555):
+        yield [18], [11], [value], value % 256, 8
+    # every width at every bit of a byte, and as far back as it goes, and one further
+    for width in range(1, 33):
+        for bit in range(8):
+            yield [8 * dice.below(6) + bit], [width], [number_for(dice, width)], dice.below(256), dice.within(12, 14)
+        yield [14280 - width], [width], [number_for(dice, width)], dice.below(256), dice.within(1785, 1787)
+        yield [14281 - width], [width], [0], dice.below(256), 9
+        if width < 32:
+            yield [dice.below(33)], [width], [2**width + dice.below(2)], dice.below(256), 9
+    # 64 positions, and one more; none; widths that no parameter has; a start beyond all
+    for n in (64, 65):
+        widths = any_widths(dice, n)
+        starts = starts_for(dice, widths)
+        yield starts, widths, [number_for(dice, width) for width in widths], 1, size_of(starts, widths)
+    yield [], [], [], 3, 9
+    for start, width in ((0, 0), (0, 33), (0, TOP), (TOP, 1), (TOP, TOP), (14279, 1), (14280, 1)):
+        yield [start], [width], [0], 5, 1800
+        yield [0, start], [1, width], [0, 0], 5, 1800
+    for _ in range(500):
+        yield from spoiled_pack(dice)
+
+
+def spoiled_pack(dice):
+    """A map with its numbers and a buffer that is long enough, and often one thing wrong with it, or two."""
+    widths = any_widths(dice, how_many(dice))
+    starts = starts_for(dice, widths, dice.one_of([0, 0, 0, 0, 0, dice.below(400)]))
+    numbers = [number_for(dice, width) for width in widths]
+    size = size_of(starts, widths) + dice.below(4)
+    for _ in range(dice.one_of([0, 0, 1, 2])):
+        what, p = dice.below(8), dice.below(len(starts))
+        if what == 0:
+            size = dice.below(size_of(starts, widths))
+        elif what == 1:
+            numbers = numbers[:dice.below(len(numbers) + 1)]
+        elif what == 2:
+            numbers = (numbers + [0])[:72]
+        elif what == 3 and widths[p] < 32 and p < len(numbers):
+            numbers[p] = dice.one_of([2 ** widths[p], TOP])
+        elif what == 4:
+            widths = widths[:p]
+            break
+        elif what == 5:
+            widths[p] = dice.one_of([0, 33, TOP])
+            break
+        elif what == 6:
+            starts[p] = dice.within(0, 200)
+        elif what == 7:
+            widths = widths + [dice.below(99)]
+            break
+    yield starts, widths, numbers, dice.below(256), size
+
+
+def taken(dice):
+    """Starts, widths, a payload, and the room for numbers as it was."""
+    yield [0, 8], [8, 2], [0x28, 0xFD] + [255] * 6, [7, 7, 7]
+    yield [0, 4], [2, 8], [0x5E, 0xFA] + [255] * 6, [7, 7]
+    for bit in (1, 8, 9, 57, 64):
+        yield from (([bit - 1], [1], payload, [7]) for payload in (model.with_bit([255] * 8, bit - 1, 0), model.with_bit([0] * 8, bit - 1, 1)))
+    for bit in (18, 19, 28, 29):
+        yield [18], [11], model.with_bit([0] * 8, bit - 1, 1), [7]
+    for width in range(1, 33):
+        for bit in range(8):
+            start = 8 * dice.below(6) + bit
+            yield [start], [width], dice.bytes(size_of([start], [width])), [dice.below(2**32)]
+    for width in (1, 2, 5, 8, 19, 24, 31, 32):
+        yield [14280 - width], [width], dice.bytes(1785), [TOP, 0]
+        yield [14281 - width], [width], dice.bytes(10), [TOP, 0]
+    for n in (64, 65):
+        widths = any_widths(dice, n)
+        starts = starts_for(dice, widths)
+        yield starts, widths, dice.bytes(size_of(starts, widths)), list(range(n + 3))
+    yield [], [], dice.bytes(8), [1, 2]
+    for start, width in ((0, 0), (0, 33), (0, TOP), (TOP, 1), (TOP, TOP), (14280, 1)):
+        yield [start], [width], dice.bytes(8), [1, 2]
+    for _ in range(500):
+        widths = any_widths(dice, how_many(dice))
+        starts = starts_for(dice, widths, dice.one_of([0, 0, 0, 0, 0, dice.below(400)]))
+        size = size_of(starts, widths) + dice.one_of([0, 0, 0, 0, 0, 0, -1, 1])
+        n = len(starts)
+        room = dice.one_of([n, n, n, n + 1, n + 5, n - 1, dice.below(n)])
+        yield starts, widths, dice.bytes(size), [dice.below(2**32) for _ in range(room)]
