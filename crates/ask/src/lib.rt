@@ -91,7 +91,8 @@ fn width_in(cell: u64, spn: u32) -> u32
     dictionary::width_of(spn)
 }
 
-// Unfolds a row: its 64 cells as SPNs, starts and widths.
+// Unfolds a row: its 64 cells as SPNs, starts and widths, whatever n its form says. An empty cell asks nothing of the dictionary, and a position past
+// the 64 is missing.
 fn unfold_row(row: &[u64], spns: &mut [u32], starts: &mut [u32], widths: &mut [u32])
     requires { ⌜ (length (now row) ≡ rowWords) × (length (now spns) ≡ positions) × (length (now starts) ≡ positions) × (length (now widths) ≡ positions) ⌝ }
     ensures { λ _. ⌜ (now (spns .exit) ≡ spnsIn (now (row .entry))) × (now (starts .exit) ≡ startsIn (now (row .entry)))
@@ -123,7 +124,7 @@ fn judge_row(row: &[u64], spns: &mut [u32], starts: &mut [u32], widths: &mut [u3
     maps::judge(n_of(form), transport_of(form), spns, starts, widths)
 }
 
-// What packing or reading a usable map told, as an answer.
+// What packing or reading told, as an answer. Of a usable map each position has its place (law usable-placed), so that Unplaced never comes.
 fn told(laying: Laying) -> Answer
     ensures { λ r. ⌜ ((b : List ℕ) → outcome (inNumbers r) b ≡ asOutcome (toldBy laying b)) ⌝ }
 {
