@@ -17,9 +17,10 @@ use Rattle.history.proofs.Demand.{room}
 
 -- one message more in both
 with-message : (m : Message) (s t : List Message) → SameMembers s t → SameMembers (m ∷ s) (m ∷ t)
-with-message m s t same x =
-    ( λ i. ⊎-elim (λ e. List·Memᴰ·head e) (λ j. List·Memᴰ·tail (same x .0 j)) (List·Memᴰ·cases-cons i)
-    , λ i. ⊎-elim (λ e. List·Memᴰ·head e) (λ j. List·Memᴰ·tail (same x .1 j)) (List·Memᴰ·cases-cons i) )
+with-message m s t same x = (
+  λ i. ⊎-elim (λ e. List·Memᴰ·head e) (λ j. List·Memᴰ·tail (same x .0 j)) (List·Memᴰ·cases-cons i),
+  λ i. ⊎-elim (λ e. List·Memᴰ·head e) (λ j. List·Memᴰ·tail (same x .1 j)) (List·Memᴰ·cases-cons i),
+)
 
 pub same-conflict : (m : Message) (s t : List Message) → SameMembers s t → conflict (m ∷ s) ≡ conflict (m ∷ t)
 same-conflict m s t same =
