@@ -1,11 +1,17 @@
-"""What the program `vectors` is run on, and what the model says it must write."""
+"""What the programs `vectors` and `runs` are run on, and what the model says they must write."""
+import keys
 import lists
+import pairs
 import rooms
 from dice import Dice
 
 
 def files():
     """Every file, as its path under crates/ and its bytes."""
-    cases = [*rooms.cases(Dice(74)), *lists.cases(Dice(2010))]
-    yield "vectors/stdin", b"".join(given for given, lines in cases)
-    yield "vectors/stdout", "".join(line + "\n" for given, lines in cases for line in lines).encode()
+    yield from written("vectors", [*rooms.cases(Dice(74)), *lists.cases(Dice(2010))])
+    yield from written("runs", [*pairs.cases(Dice(31)), *keys.cases(Dice(1939))])
+
+
+def written(program, cases):
+    yield program + "/stdin", b"".join(given for given, lines in cases)
+    yield program + "/stdout", "".join(line + "\n" for given, lines in cases for line in lines).encode()

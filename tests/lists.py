@@ -35,10 +35,10 @@ def pattern(seed, size):
 # ---- The model's answers over lists
 
 def rows_of(n, spns, starts, widths):
-    """Position p has the p-th of each list, and is missing where there is no SPN or the mark for none; a start or a width that
+    """Position p has the p-th of each list, and is missing where there is no width or the mark for none; an SPN or a start that
     the lists haven't is 0."""
     past_end = lambda numbers, p, other: numbers[p - 1] if p <= len(numbers) else other
-    return [None if past_end(spns, p, MISSING) == MISSING else (spns[p - 1], past_end(starts, p, 0), past_end(widths, p, 0))
+    return [None if past_end(widths, p, MISSING) == MISSING else (past_end(spns, p, 0), past_end(starts, p, 0), widths[p - 1])
             for p in range(1, n + 1)]
 
 
@@ -101,7 +101,7 @@ def spoil(dice, number, told):
     p = dice.below(n)
     q = dice.below(p) if p else 0
     if number == 2:
-        spns[p] = MISSING
+        widths[p] = MISSING
     elif number == 3:
         spns[p], widths[p] = dice.one_of([0, 521, 2848, dice.one_of(KNOWN) + 2**18, 2**19 - 1]), 0
     elif number == 4 and p:
@@ -109,7 +109,7 @@ def spoil(dice, number, told):
     elif number == 5 and p:
         starts[p] = dice.one_of([starts[p - 1], max(starts[p - 1] - 1, 0), starts[q], 0])
     elif number == 6 and p:
-        starts[p] = starts[p - 1] + dice.within(1, max(widths[p - 1] - 1, 1))
+        starts[p] = starts[p - 1] + dice.within(1, max(min(widths[p - 1], 32) - 1, 1))
     elif number == 7:
         by = 14281 - starts[p] - widths[p] + dice.one_of([0, 0, 1, 40])
         for i in range(p, n):
@@ -137,7 +137,8 @@ def judged(dice):
         yield n, 1, spns, [start + last for start in starts], widths
         yield n, 1, spns, [start + last + 1 for start in starts], widths
         for p in (1, n):
-            yield n, 1, spns[:p - 1] + [MISSING] + spns[p:], starts, widths
+            yield n, 1, spns, starts, widths[:p - 1] + [MISSING] + widths[p:]
+            yield n, 1, spns[:p - 1] + [TOP] + spns[p:], starts, widths
     # usable ones, and spoiled ones: one judgement at a time, then several at once
     for _ in range(300):
         yield usable(dice, how_many(dice))
@@ -163,7 +164,9 @@ def judged(dice):
                [dice.one_of([1, dice.below(9), dice.within(1, 32), 33, dice.within(1, 64)]) for _ in range(n)])
     yield 0, 0, [], [], []
     yield 0, 1, [], [], []
-    yield 1, 1, [TOP - 1], [TOP], [TOP]
+    for spn, start, width in ((TOP, TOP, TOP - 1), (TOP, TOP, TOP), (TOP, 0, 1), (0, 0, TOP)):
+        yield from ((1, transport, [spn], [start], [width]) for transport in (0, 1))
+    yield 2, 0, [TOP, TOP], [0, 1], [1, 1]
 
 
 # ---- Payloads

@@ -156,17 +156,21 @@ def judge_map(n, transport, rows):
     return 0, 0
 
 
+CONFLICT = "in conflict"
+
+
 def map_of(messages):
-    """The map of a set without a contradiction: n, the transport flag, and what stands at each position."""
+    """What a key's messages make: CONFLICT, or n, the transport flag and what stands at each position."""
+    if in_conflict(messages):
+        return CONFLICT
     said = {m.position: (m.spn, m.start, WIDTHS.get(m.spn, 0)) for m in messages}
     n, transport = messages[0].n, messages[0].transport
     return n, transport, [said.get(p) for p in range(1, n + 1)]
 
 
-def judge_set(messages):
-    if in_conflict(messages):
-        return 1, 0
-    return judge_map(*map_of(messages))
+def judge(held):
+    """The judgement of a key's map: CONFLICT, or n, the transport flag and what stands at each position."""
+    return (1, 0) if held == CONFLICT else judge_map(*held)
 
 
 # ---- Payload bits, for a list of (start, width) in position order
@@ -235,19 +239,23 @@ class Box:
         del self.sets[key]
         return Answer(0)
 
+    def map(self, key):
+        """The key's map, or None where it is not held."""
+        return map_of(self.sets[key]) if key in self.sets else None
+
     def judge(self, key):
-        if key not in self.sets:
-            return Answer(11)
-        return Answer(0, 0, *judge_set(self.sets[key]))
+        held = self.map(key)
+        return Answer(11) if held is None else Answer(0, 0, *judge(held))
 
     def usable(self, key):
         """Answers 11 and 12, or None and the key's (SPN, start, width) in position order."""
-        if key not in self.sets:
+        held = self.map(key)
+        if held is None:
             return Answer(11), None
-        judged = judge_set(self.sets[key])
+        judged = judge(held)
         if judged != (0, 0):
             return Answer(12, 0, *judged), None
-        n, transport, rows = map_of(self.sets[key])
+        n, transport, rows = held
         return None, rows
 
     def pack(self, key, numbers, buffer):
@@ -347,9 +355,9 @@ def listing(log):
         answers.append(box.learn(int.from_bytes(record[:4], "little"), record[4], record[5:]).number)
     lines = ["SRC DST MSG N JUDGED AT"]
     for key in box.keys():
-        judged, position = judge_set(box.sets[key])
-        n = 0 if in_conflict(box.sets[key]) else box.sets[key][0].n
-        lines.append("%d %d %d %d %d %d" % (*key, n, judged, position))
+        held = box.map(key)
+        n = 0 if held == CONFLICT else held[0]
+        lines.append("%d %d %d %d %d %d" % (*key, n, *judge(held)))
     refused = sum(answers.count(number) for number in (1, 3, 4, 5, 6, 7, 8, 9))
     lines.append("RECORDS %d REFUSED %d OTHER %d LEFT %d" % (whole, refused, answers.count(2), len(log) - 13 * whole))
     return "".join(line + "\n" for line in lines)

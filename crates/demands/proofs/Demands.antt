@@ -11,16 +11,20 @@
 -- Assumes nothing. `Carried` and `InBytes` say only that bytes are bytes: what a call's types already say of its arguments.
 use Prim.Native.Nat.{ℕ, _*_, _≤_, _<_}
 use mathlib.Core.Path.{_≡_, refl, sym, ap, _∙_}
-use mathlib.Core.Bool.{true, false}
+use mathlib.Core.Bool.{false}
 use mathlib.Core.List.{List, [], _∷_, _++_}
 use mathlib.Core.Option.{Option, none, some}
-use lib.ListN.{length, take, getD}
-use Rattle.answers.specs.Answers.{Said, plain, Outcome}
+use lib.ListN.{length, take, drop, getD}
+use Rattle.answers.specs.Answers.{plain, done, Outcome, outcome}
 use Rattle.message.specs.declared.Key.{Key}
 use Rattle.message.specs.declared.Message.{Message}
 use Rattle.message.specs.Message.{heard}
 use Rattle.dictionary.specs.Dictionary.{widthOf}
+use Rattle.payload.specs.Bits.{bitOf, bitAt}
+use Rattle.payload.specs.Place.{placeIn, assigned}
+use Rattle.payload.specs.Payload.{filled}
 use Rattle.maps.specs.Maps.{Map, mapOf, SameMembers}
+use Rattle.maps.specs.Judge.{countOf, startsOf, widthsOf, lengthOf}
 use Rattle.maps.proofs.Maps.{same-map}
 use Rattle.history.specs.History.{Event, Learn, Forget, since, answer, setOf, Few}
 use Rattle.history.proofs.Same.{same-answer}
@@ -31,6 +35,7 @@ use Rattle.table.specs.Forget.{forgotten}
 use Rattle.table.specs.Calls.{Call, Frame, Forgets, run, happened, frameAnswer, heardAnswer, InBytes, Carried, AllCarried}
 use Rattle.table.proofs.RunsOfCalls.{map-is, demand-map, demand-frame, demand-forget}
 use Rattle.ask.specs.Ask.{judgedBy, packedBy, readBy, Finding, foundBy}
+use Rattle.ask.proofs.Laws.{Unusable, pack-12, read-12, find-12, pack-bit, pack-other, pack-past, read-back, never-14, pack-back}
 
 -- ---- Demand 3: "every answer about a key is the one 01 defines from the collection of different well-formed messages naming it since its last forget"
 
@@ -90,3 +95,52 @@ module _ (calls others : List Call) (bytes : AllCarried calls) (bytes′ : AllCa
       → forgotten (run calls) (keyNumber k) .answer ≡ forgotten (run others) (keyNumber k) .answer
   same-forget k b u v same =
       demand-forget calls bytes few k b ∙ ap plain (same-answer (happened calls) (happened others) (Forget k) u v same) ∙ sym (demand-forget others bytes′ few′ k b)
+
+-- ---- Demand 2: "Packing a usable map puts each value at its bits and 1 in every other bit. Reading gives the packed values back, and packing what was read
+-- gives the payload with its unassigned bits set to 1." Of any map, by its starts and widths
+
+module _ (m : Map) where
+  abbrev starts : List ℕ
+  starts = startsOf widthOf m
+
+  abbrev widths : List ℕ
+  widths = widthsOf widthOf m
+
+  -- "A map is usable exactly when document 01 and J1939-74 say so": pack, read and find refuse it with 12 exactly where it is held and its judgement isn't 0
+  pub record Refused : Type 0 where
+    pub pack : (numbers out : List ℕ) → (packedBy widthOf m numbers out .answer .number ≡ 12 → Unusable widthOf m) × (Unusable widthOf m → packedBy widthOf m numbers out .answer .number ≡ 12)
+    pub read : (payload room : List ℕ) → (readBy widthOf m payload room .answer .number ≡ 12 → Unusable widthOf m) × (Unusable widthOf m → readBy widthOf m payload room .answer .number ≡ 12)
+    pub find : (spn : ℕ) → (foundBy widthOf m spn .answer .number ≡ 12 → Unusable widthOf m) × (Unusable widthOf m → foundBy widthOf m spn .answer .number ≡ 12)
+
+  pub refused-12 : Refused
+  refused-12 = record {
+    pack = λ numbers out. let (a, b) = pack-12 widthOf m numbers out in (a, λ u. ap (λ (o : Outcome). o .answer .number) (b u));
+    read = λ payload room. let (a, b) = read-12 widthOf m payload room in (a, λ u. ap (λ (o : Outcome). o .answer .number) (b u));
+    find = λ spn. let (a, b) = find-12 widthOf m spn in (a, λ u. ap (λ (f : Finding). f .answer .number) (b u));
+  }
+
+  -- after pack answered 0: bit k of the number at index i at its place, 1 in every other bit of the L bytes, the numbers back from reading them
+  pub record Packed (numbers out : List ℕ) : Type 0 where
+    pub bits : (i k : ℕ) → i < countOf m → k < getD widths i 0 → bitAt (packedBy widthOf m numbers out .memory) (placeIn starts widths i k) ≡ bitOf (getD numbers i 0) k
+    pub others : (p : ℕ) → p < 8 * lengthOf widthOf m → assigned starts widths p ≡ false → bitAt (packedBy widthOf m numbers out .memory) p ≡ 1
+    pub past : drop (lengthOf widthOf m) (packedBy widthOf m numbers out .memory) ≡ drop (lengthOf widthOf m) out
+    pub back : (room : List ℕ) → countOf m ≤ length room
+        → readBy widthOf m (take (lengthOf widthOf m) (packedBy widthOf m numbers out .memory)) room ≡ outcome (done (countOf m)) (numbers ++ drop (countOf m) room)
+
+  pub demand-2-pack : (numbers out : List ℕ) → packedBy widthOf m numbers out .answer .number ≡ 0 → Packed numbers out
+  demand-2-pack numbers out e = record {
+    bits = pack-bit widthOf m numbers out e;
+    others = pack-other widthOf m numbers out e;
+    past = pack-past widthOf m numbers out e;
+    back = read-back widthOf m numbers out e;
+  }
+
+  -- after read answered 0: its numbers never make pack answer 14, and packing them gives the payload with its unassigned bits set to 1
+  pub record Read (payload room : List ℕ) : Type 0 where
+    pub fit : (out : List ℕ) → packedBy widthOf m (take (countOf m) (readBy widthOf m payload room .memory)) out .answer .number ≡ 14 → ⊥
+    pub back : (out : List ℕ) → lengthOf widthOf m ≤ length out
+        → packedBy widthOf m (take (countOf m) (readBy widthOf m payload room .memory)) out
+        ≡ outcome (done (lengthOf widthOf m)) (filled starts widths payload ++ drop (lengthOf widthOf m) out)
+
+  pub demand-2-read : (payload room : List ℕ) → readBy widthOf m payload room .answer .number ≡ 0 → Read payload room
+  demand-2-read payload room e = record { fit = never-14 widthOf m payload room e; back = pack-back widthOf m payload room e }

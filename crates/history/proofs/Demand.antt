@@ -3,19 +3,19 @@ use Prim.Native.Nat.{ℕ, suc, _≤_}
 use native.Mathlib.Omega.{arith}
 use mathlib.Core.Path.{_≡_, refl, sym, ap, _∙_, fun-ext}
 use mathlib.Core.Logic.{_↔_}
-use mathlib.Core.Bool.{Bool, true, false, cond, _&&_, not, and-eq-true-iff, and-false}
+use mathlib.Core.Bool.{Bool, true, false, cond, not, and-eq-true-iff, and-false}
 use mathlib.Core.List.{List, [], _∷_}
 use lib.ListN.{length}
-use lib.Dec.{eqb, leb}
+use lib.Dec.{eqb}
 use borrow.Author.Tests.{leb-true, leb-false, le-leb}
 use Rattle.message.specs.declared.Key.{Key}
 use Rattle.message.specs.declared.Message.{Message}
 use Rattle.maps.specs.Maps.{sameKey, conflict, Map, Nothing, Conflict, Held, mapOf, learned, SameMembers}
 use Rattle.maps.proofs.Tests.{test, never, key-eq}
-use Rattle.maps.proofs.Maps.{same-map}
-use Rattle.history.specs.History.{mostKeys, Event, Learn, Forget, names, isEmpty, since, without, keys, noRoom, answer, kept, setOf, Few}
-use Rattle.history.specs.Table.{Table, isNothing, isConflict, full, number, step, after}
-use Rattle.history.proofs.Follows.{Follows, Calls, follows, answers}
+use Rattle.maps.proofs.Maps.{same-map, map-more}
+use Rattle.history.specs.History.{mostKeys, Event, Learn, Forget, names, isEmpty, since, keys, noRoom, answer, kept, setOf, Few}
+use Rattle.history.specs.Table.{Table, isNothing, isConflict, full, number, after}
+use Rattle.history.proofs.Follows.{conflict-is, Calls, follows, answers}
 use Rattle.history.proofs.Keys.{has, without-le, without-one, has-keys, keys-once}
 
 -- ---- which events are answered 9
@@ -44,6 +44,7 @@ row-is c k = follows c .rows k
 
 -- ---- where at no moment more than 16 keys have messages, none is left out
 
+-- a message that keeps within 16 keys has room
 pub room : (h : List Event) (m : Message) → length (keys (Learn m ∷ h)) ≤ mostKeys → noRoom h (m .key) ≡ false
 unfolding noRoom
 room h m b =
@@ -69,6 +70,12 @@ demand-answer {h} c u e = answered c e ∙ ap (λ (g : List Event). answer g e) 
 -- order, repeats and other keys don't count
 pub demand-order : {h g : List Event} {t u : Table} → Calls h t → Calls g u → Few h → Few g → (k : Key) → SameMembers (since h k) (since g k) → t .look k ≡ u .look k
 demand-order {h} {g} c d u v k same = demand-row c u k ∙ same-map (since h k) (since g k) same ∙ sym (demand-row d v k)
+
+pub same-conflict : (m : Message) (s t : List Message) → SameMembers s t → conflict (m ∷ s) ≡ conflict (m ∷ t)
+same-conflict m s t same =
+    sym (conflict-is m s)
+    ∙ ap isConflict (map-more m s ∙ ap (λ (M : Map). learned M m) (same-map s t same) ∙ sym (map-more m t))
+    ∙ conflict-is m t
 
 -- ---- an event that names another key leaves what is held of a key
 

@@ -3,27 +3,27 @@ use Prim.Native.Nat.{ℕ, zero, suc, _≤_, _<_}
 use native.Mathlib.Omega.{arith}
 use native.Mathlib.Decide.{decLt, ℕ-discrete}
 use mathlib.Core.Path.{_≡_, refl, sym, ap, _∙_}
-use mathlib.Core.Bool.{Bool, true, false, cond, not, _&&_, _||_, or-true}
-use mathlib.Core.List.{List, [], _∷_}
-use borrow.Author.Tests.{eqb-true, eqb-false, eq-eqb, ne-eqb, le-leb, lt-leb}
+use mathlib.Core.Bool.{Bool, true, false, cond, not, or-true}
+use mathlib.Core.List.{List}
+use borrow.Author.Tests.{eqb-false, eq-eqb, ne-eqb, le-leb, lt-leb}
 use lib.Dec.{eqb, leb}
 use lib.ListN.{length}
 use Rattle.words.specs.Slots.{Distinct}
 use Rattle.words.proofs.First.{first-below}
 use Rattle.message.specs.declared.Key.{Key}
-use Rattle.maps.specs.Maps.{sameKey, Map, Nothing}
+use Rattle.maps.specs.Maps.{sameKey, Nothing}
 use Rattle.maps.proofs.Tests.{test, never, key-eq, key-refl}
 use Rattle.history.specs.History.{mostKeys}
 use Rattle.history.specs.Table.{Table, isNothing}
 use Rattle.history.proofs.Keys.{has, Once, same-count}
 use Rattle.history.proofs.Follows.{Sound}
-use Rattle.table.specs.Layout.{keyNumber, keyNumbers, keyNamed, stateWord, keyWord, rowIs, rowOf, slotOf, freeSlot}
-use Rattle.table.specs.View.{rowMap, mapIn, keysTo, keyCount}
+use Rattle.table.specs.Layout.{keyNumber, keyNamed, stateWord, keyWord, rowIs, rowOf, slotOf, freeSlot}
+use Rattle.table.specs.View.{mapIn, keysTo, keyCount}
 use Rattle.table.specs.Next.{heldKeys}
 use Rattle.table.specs.Calls.{InBytes}
 use Rattle.table.proofs.RowKeys.{is-held, held-is}
 use Rattle.table.proofs.View.{map-at, map-none, row-something}
-use Rattle.table.proofs.Learning.{is-at, under, free-at}
+use Rattle.table.proofs.Learning.{is-at, free-at}
 use Rattle.table.proofs.Lowest.{found}
 use Rattle.table.proofs.KeyNumbers.{number-back, key-back, named-bytes, inBytes, bytes-yes, yes-bytes}
 use Rattle.table.proofs.Walk.{listed-map, listed-once, listed-bytes}

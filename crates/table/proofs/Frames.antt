@@ -1,14 +1,14 @@
 -- What a frame's answer says for the table: a refusal leaves the words, and a message's numbers have their place in a row. Assumes nothing.
-use Prim.Native.Nat.{ℕ, _+_, _-_, _≤_, _<_}
+use Prim.Native.Nat.{ℕ, _≤_, _<_}
 use mathlib.Core.Bool.{Bool, true, false, cond, _&&_}
 use borrow.Author.Tests.{leb-true}
 use lib.Dec.{T, leb, ltb}
 use lib.ListN.{getD}
-use mathlib.Core.Path.{_≡_, refl, sym, ap, _∙_}
-use mathlib.Core.Option.{Option, none, some}
+use mathlib.Core.Path.{_≡_, refl, sym, ap}
+use mathlib.Core.Option.{some}
 use mathlib.Core.List.{List, [], _∷_}
 use native.Mathlib.Omega.{arith}
-use Rattle.answers.specs.Answers.{Outcome, outcome, plain}
+use Rattle.answers.specs.Answers.{outcome, plain}
 use Rattle.frame.specs.Frame.{bits, fieldsOf}
 use Rattle.message.specs.declared.Message.{Message}
 use Rattle.message.specs.declared.Decoded.the-variants.{Refused, Taken}

@@ -1,11 +1,9 @@
 -- The words after a run of calls are the words after its events, one by one; and these keep to the history. Assumes nothing.
-use Prim.Native.Nat.{ℕ, _<_}
+use Prim.Native.Nat.{ℕ}
 use mathlib.Core.Path.{_≡_, refl, sym, ap, _∙_}
-use mathlib.Core.Bool.{Bool, true, false, cond}
 use mathlib.Core.Option.{Option, none, some}
 use mathlib.Core.List.{List, [], _∷_, _++_, foldr-append}
 use native.Mathlib.Omega.{arith}
-use lib.ListN.{getD}
 use Rattle.words.specs.Runs as runs
 use Rattle.words.proofs.First.{first-none}
 use Rattle.message.specs.declared.Key.{Key}
@@ -13,12 +11,12 @@ use Rattle.message.specs.declared.Message.{Message}
 use Rattle.message.specs.Message.{heard}
 use Rattle.maps.specs.Maps.{Nothing}
 use Rattle.maps.proofs.Tests.{test}
-use Rattle.history.specs.History.{mostKeys, Event, Learn, Forget}
+use Rattle.history.specs.History.{mostKeys, Event}
 use Rattle.history.proofs.Follows.{Calls, start, call}
 use Rattle.table.specs.Layout.{keyNumber, rowIs, rowOf, slotOf}
 use Rattle.table.specs.View.{mapIn}
 use Rattle.table.specs.Learn.{emptyTable, learnt, taught}
-use Rattle.table.specs.Calls.{Call, Frame, Forgets, Reads, wordsAfter, run, learns, eventsOf, happened, InBytes, Carried, AllCarried}
+use Rattle.table.specs.Calls.{Call, Frame, Forgets, Reads, wordsAfter, run, learns, eventsOf, happened, Carried, AllCarried}
 use Rattle.table.proofs.RowKeys.{free-is}
 use Rattle.table.proofs.View.{map-none}
 use Rattle.table.proofs.KeyNumbers.{inBytes}
@@ -53,7 +51,7 @@ pub calls-by : (h : List Event) → AllFit h → Calls h (tableOf (wordsBy h))
 calls-by [] f = start (sound emptyTable sane-empty) (λ k. test (inBytes k) (λ b. rw b (none-held k)) (λ n. rw n))
 calls-by (e ∷ h) f =
     let s = sane-by h (f .1) in
-    call e (calls-by h (f .1)) (sound (wordsBy (e ∷ h)) (sane-event (wordsBy h) s e (f .0))) (event-after (wordsBy h) s e (f .0))
+    call e (calls-by h (f .1)) (sound (wordsBy (e ∷ h)) (sane-event (wordsBy h) s e (f .0))) (event-after (wordsBy h) (s .long) e (f .0))
 
 -- ---- a run of calls
 

@@ -1,7 +1,7 @@
 pub mod Words
 pub mod RowKeys
-pub mod RowMaps
 pub mod View
+pub mod RowMaps
 pub mod Frames
 pub mod KeyNumbers
 pub mod Learning

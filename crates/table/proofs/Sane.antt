@@ -1,11 +1,11 @@
 -- What holds of the words of every run: no key is held twice, and every key is a key's number. Learning and forgetting keep it. Assumes nothing.
-use Prim.Native.Nat.{ℕ, _+_, _*_, _≤_, _<_}
+use Prim.Native.Nat.{ℕ, _*_, _<_}
 use native.Mathlib.Omega.{arith}
 use native.Mathlib.Decide.{decLt, ℕ-discrete}
 use mathlib.Core.Path.{_≡_, refl, sym, ap, _∙_}
-use mathlib.Core.Bool.{Bool, true, false, cond, true≢false}
+use mathlib.Core.Bool.{true}
 use mathlib.Core.List.{List}
-use lib.ListN.{length, getD, set, length-replicate}
+use lib.ListN.{length, set, length-replicate}
 use lib.Seq.{getD-set-same}
 use Rattle.words.specs.Slots.{Distinct}
 use Rattle.words.proofs.Slots.{put-distinct, not-else}
@@ -21,7 +21,7 @@ use Rattle.table.proofs.Words.{row-length, row-state, put}
 use Rattle.table.proofs.RowKeys.{is-held, held-is, free-is, learnRow-key, learnRow-length, newRow-key, newRow-length}
 use Rattle.table.proofs.RowMaps.{zeros}
 use Rattle.table.proofs.Learning.{is-at, under, into-row, into-free, no-room}
-use Rattle.table.proofs.Forgetting.{without, freed-words, freed-row, held-before, not-held}
+use Rattle.table.proofs.Forgetting.{rowWithout, freed-words, freed-row, held-before, not-held}
 use Rattle.table.proofs.KeyNumbers.{below-all}
 
 pub record Sane (t : List ℕ) : Type 0 where
@@ -95,7 +95,7 @@ sane-learn t s m b = go (decLt i mostKeys) (decLt (freeSlot t) mostKeys)
     go (no h) (no f) = rw (no-room t (s .long) m (omega arith) (omega arith)) s
 
 -- of a row from which a key was taken, what it still holds it held before
-still : (r : List ℕ) → length r ≡ rowWords → (key a : ℕ) → rowIs (without r key) a ≡ true → rowIs r a ≡ true
+still : (r : List ℕ) → length r ≡ rowWords → (key a : ℕ) → rowIs (rowWithout r key) a ≡ true → rowIs r a ≡ true
 still r rl key a x = test (rowIs r key) (λ e. never (rw e at x) (free-is (set r 0 0) a (getD-set-same r 0 0 0 (omega arith)))) (λ n. rw n at x)
 
 pub sane-free : (t : List ℕ) → Sane t → (key : ℕ) → Sane (freeTo t key mostKeys)

@@ -3,22 +3,20 @@ use Prim.Native.Nat.{ℕ, zero, suc, _+_, _≤_, _<_}
 use native.Mathlib.Omega.{arith}
 use native.Mathlib.Decide.{decLt, ℕ-discrete}
 use mathlib.Core.Path.{_≡_, refl, sym, ap, _∙_}
-use mathlib.Core.Bool.{Bool, true, false, cond, not, _&&_, _||_, and-eq-true-iff, or-true}
-use mathlib.Core.Option.{Option, none, some}
+use mathlib.Core.Bool.{Bool, true, cond, not, _&&_, _||_, and-eq-true-iff, or-true}
 use mathlib.Core.List.{List, [], _∷_}
-use borrow.Author.Tests.{eqb-false, ne-eqb, not-true, leb-true, le-leb, lt-leb, ltb-true, lt-ltb, le-ltb}
-use lib.Dec.{eqb, leb, ltb}
-use lib.ListN.{length}
-use Rattle.words.proofs.First.{first-holds, first-below, first-le}
+use borrow.Author.Tests.{ne-eqb, leb-true, le-leb, lt-leb, ltb-true, lt-ltb, le-ltb}
+use lib.Dec.{eqb, leb}
+use Rattle.words.proofs.First.{first-holds, first-below}
 use Rattle.message.specs.declared.Key.{Key}
 use Rattle.maps.specs.Maps.{sameKey}
 use Rattle.maps.proofs.Tests.{test, never, key-eq, key-refl}
 use Rattle.history.specs.History.{mostKeys}
 use Rattle.history.specs.Table.{isNothing}
 use Rattle.history.proofs.Keys.{has, Once}
-use Rattle.table.specs.Layout.{keyNumber, keyNumbers, keyNamed, stateWord, keyWord, rowIs, rowOf, slotOf}
+use Rattle.table.specs.Layout.{keyNumber, keyNumbers, keyNamed, stateWord, keyWord, rowOf, slotOf}
 use Rattle.table.specs.View.{mapIn}
-use Rattle.table.specs.Next.{isHeld, lowestFrom, keyAt, firstKey, nextKey, walk, heldKeys, Below, AllAbove, Rising}
+use Rattle.table.specs.Next.{isHeld, lowestFrom, keyAt, firstKey, walk, heldKeys, AllAbove, Rising}
 use Rattle.table.specs.Calls.{InBytes}
 use Rattle.table.proofs.RowKeys.{is-held}
 use Rattle.table.proofs.View.{map-at, map-none, row-something}

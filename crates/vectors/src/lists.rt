@@ -1,13 +1,14 @@
 // Judging, packing and reading over plain lists, the rooms maps and payload.
-use crate::lines::bytes;
-use crate::lines::end;
-use crate::lines::first;
-use crate::lines::more;
-use crate::lines::numbers;
-use crate::lines::pattern;
-use crate::lines::room;
-use crate::lines::words;
+ghost use Rattle.io.specs.Counts.{Counts};
 use libc::STDIN_FILENO;
+use lines::bytes;
+use lines::end;
+use lines::first;
+use lines::more;
+use lines::numbers;
+use lines::room;
+use lines::two;
+use lines::words;
 use payload::Laying;
 
 fn laying(l: Laying) {
@@ -51,8 +52,18 @@ fn read(starts: &[u32], widths: &[u32], given: &mut [u32], payload: &mut [u8]) {
     end();
 }
 
-fn size(low: u8, high: u8) -> usize {
-    low as usize + high as usize * 256
+// Fills the first n bytes with a pattern, and answers how many there are.
+fn pattern(seed: u8, n: usize, list: &mut [u8]) -> usize
+    ensures { λ r. ⌜ Counts r (now (list .exit)) ⌝ }
+{
+    let mut value = seed;
+    let mut i = 0;
+    while i < list.len() && i < n {
+        list[i] = value;
+        value = std::num::wrapping_add_u8(value, 29);
+        i += 1;
+    }
+    i
 }
 
 // A case of lists: n, transport, how many SPNs, starts, widths and numbers, a seed, how many payload bytes; then those lists.
@@ -66,7 +77,7 @@ pub(crate) fn run(b: &[u8; 14]) {
     let s = words(b[4], &mut starts);
     let w = words(b[5], &mut widths);
     let g = words(b[6], &mut given);
-    let n = pattern(b[7], size(b[8], b[9]), &mut payload);
+    let n = pattern(b[7], two(b[8], b[9]), &mut payload);
     match b[0] {
         8 => judge(b[1], b[2] == 1, &spns[..p], &starts[..s], &widths[..w]),
         9 => pack(&starts[..s], &widths[..w], &given[..g], &mut payload[..n]),

@@ -1,13 +1,13 @@
 // The rooms answers, frame, message and dictionary.
-use crate::lines::end;
-use crate::lines::first;
-use crate::lines::joined;
-use crate::lines::long;
-use crate::lines::more;
-use crate::lines::numbers;
 use answers::Judgement;
 use dictionary::Found;
 use frame::Three;
+use lines::end;
+use lines::first;
+use lines::four;
+use lines::long;
+use lines::more;
+use lines::numbers;
 use message::Decoded;
 use message::Message;
 
@@ -97,7 +97,7 @@ fn row(spn: u32) {
 
 // A case of 13 bytes: a word and further bytes.
 pub(crate) fn run(b: &[u8; 14]) {
-    let w = joined(b[1], b[2], b[3], b[4]);
+    let w = four(b[1], b[2], b[3], b[4]);
     match b[0] {
         0 => judged(judgement(b[1], b[2])),
         1 => fields(w),

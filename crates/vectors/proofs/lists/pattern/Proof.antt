@@ -5,8 +5,8 @@ use native.Mathlib.Omega.{arith}
 use borrow.Author.Needs.{needs}
 use lib.ListN.{length, length-set}
 use Rattle.io.proofs.Counting.{counts}
-use Rattle.vectors.proofs.lines.pattern.Statement.{statement}
-use Rattle.vectors.proofs.lines.pattern.Tie as tie
+use Rattle.vectors.proofs.lists.pattern.Statement.{statement}
+use Rattle.vectors.proofs.lists.pattern.Tie as tie
 
 abbrev Inv-loop : tie.InvT-loop
 Inv-loop seed n list₀ value₀ i₀ list value i = (i ≤ length list₀) × (length list ≡ length list₀)

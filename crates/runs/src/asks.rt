@@ -1,0 +1,58 @@
+// Questions about a key: judge, find, pack and read.
+use crate::said::answer;
+use crate::said::number;
+use ask::Found;
+use libc::STDIN_FILENO;
+use lines::bytes;
+use lines::end;
+use lines::four;
+use lines::front;
+use lines::more;
+use lines::numbers;
+use lines::room;
+use lines::two;
+use lines::words;
+use table::WORDS;
+
+fn found(f: Found) {
+    number(f.answer);
+    more(f.position as u32);
+    more(f.start);
+    more(f.width);
+    end();
+}
+
+fn pack(t: &[u64; WORDS], b: &[u8; 14], given: &[u32], out: &mut [u8]) {
+    io::read_full(STDIN_FILENO, out);
+    number(ask::pack(t, b[1], b[2], b[3], given, out));
+    bytes(out);
+    end();
+}
+
+fn read(t: &[u64; WORDS], b: &[u8; 14], given: &mut [u32], payload: &mut [u8]) {
+    io::read_full(STDIN_FILENO, payload);
+    number(ask::read(t, b[1], b[2], b[3], payload, given));
+    numbers(given);
+    end();
+}
+
+// A call with lists: how many numbers, how many payload bytes; then those.
+fn with_lists(t: &[u64; WORDS], b: &[u8; 14]) {
+    let mut given = room();
+    let mut payload = io::buffer();
+    let g = words(b[4], &mut given);
+    let n = front(two(b[5], b[6]), &payload);
+    if b[0] == 12 {
+        pack(t, b, &given[..g], &mut payload[..n]);
+    } else {
+        read(t, b, &mut given[..g], &mut payload[..n]);
+    }
+}
+
+pub(crate) fn run(t: &[u64; WORDS], b: &[u8; 14]) {
+    match b[0] {
+        10 => answer(ask::judge(t, b[1], b[2], b[3])),
+        11 => found(ask::find(t, b[1], b[2], b[3], four(b[4], b[5], b[6], b[7]))),
+        _ => with_lists(t, b),
+    }
+}

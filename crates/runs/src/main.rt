@@ -1,0 +1,56 @@
+// Runs the calls with state on the cases of standard input and writes what they answer. tests/model.py wrote the cases and the lines that must
+// come out. A case is a tag and 13 bytes, then the lists that it counts there; words go least significant byte first. An answer is written as
+// its number, its detail, and the number and position of its judgement.
+//   0                                fresh filters and an empty table; no line
+//   1 call, from, to, word           what add, delete, clear, set mode or decide answers (calls 0 to 4)
+//   2 call, 0, 0, word               the same for all 256 times 256 port numbers: a line for each answer but 15, then how often that was
+//   3 place, word                    writes a word of the filters; no line
+//   4 identifier, length, 8 bytes    what learn answers
+//   5 key                            what forget answers
+//   6                                the held keys, rising
+//   7 key                            the next held key
+//   8 place, word of 8 bytes         writes a word of the table; no line
+//   9                                place and word of all words of the table that are not 0
+//   10 key                           what judge answers
+//   11 key, SPN                      what find answers, with position, start and width
+//   12 key, numbers, buffer          what pack answers, and the whole buffer
+//   13 key, room, payload            what read answers, and the whole room
+mod asks;
+mod filters;
+mod keys;
+mod said;
+
+use libc::STDIN_FILENO;
+
+fn run(w: &mut [u32; ports::WORDS], t: &mut [u64; table::WORDS], b: &[u8; 14]) {
+    match b[0] {
+        0 => {
+            ports::fresh(w);
+            table::empty(t);
+        }
+        1..=3 => filters::run(w, b),
+        4..=9 => keys::run(t, b),
+        _ => asks::run(t, b),
+    }
+}
+
+// Reads one case and runs it; false where the input ends.
+fn case(w: &mut [u32; ports::WORDS], t: &mut [u64; table::WORDS]) -> bool {
+    let mut b = [0u8; 14];
+    let n = io::read_full(STDIN_FILENO, &mut b);
+    if n < 14 {
+        return false;
+    }
+    run(w, t, &b);
+    true
+}
+
+// What the calls are lent stands here. A proved loop has to end, so it counts its turns down, from a number that no run uses up.
+fn main() {
+    let mut w = [0u32; ports::WORDS];
+    let mut t = [0u64; table::WORDS];
+    let mut turns = u64::MAX;
+    while turns > 0 && case(&mut w, &mut t) {
+        turns -= 1;
+    }
+}

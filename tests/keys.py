@@ -1,0 +1,569 @@
+"""The cases of the learned table: learning, forgetting, the held keys, and what is asked about a key. Tags 4 to 13 of the program
+`runs`."""
+import model
+import rooms
+from dice import TOP, case, line, word, words
+from lists import KNOWN, number_for
+from model import Message
+from words import Words, cell_of
+
+EXAMPLE = Message(38, 39, 1, 2, 1, 0, 1, 1517, 0)
+
+
+def configured(key):
+    return 45056 + 256 * key[2]
+
+
+def frame_of(message, **said):
+    """The frame that says this message."""
+    m = message._asdict()
+    fields = {name: m[name] for name in ("source", "n", "proprietary", "transport", "position", "spn")}
+    return rooms.frame(**fields, **{"ps": message.destination, "configured": configured(message), "start": message.start + 1, **said})
+
+
+class Run:
+    """Calls one after another on one table. The words are held to what the sets say, until words are written that no call makes."""
+
+    def __init__(self):
+        self.models = [model.Box(), Words()]
+        self.cases = [(case(0, b""), [])]
+
+    def says(self, name, *given):
+        answers = [getattr(each, name)(*given) for each in self.models]
+        assert all(answer == answers[0] for answer in answers), (name, given, answers)
+        return answers[0]
+
+    def add(self, tag, given, *lines):
+        self.cases.append((case(tag, given), list(lines)))
+
+    # ---- calls that change the table
+
+    def frame(self, identifier, length, eight):
+        answer = self.says("learn", identifier, length, eight)
+        self.add(4, word(identifier) + bytes([length]) + bytes(eight), line(*answer))
+        return answer.number
+
+    def learn(self, *messages, **said):
+        for message in messages:
+            self.frame(*frame_of(message, **said))
+
+    def forget(self, *keys):
+        for key in keys:
+            self.add(5, bytes(key), line(*self.says("forget", key)))
+
+    def write(self, place, value):
+        self.models = self.models[-1:]
+        self.models[0].words[place] = value
+        self.add(8, place.to_bytes(2, "little") + value.to_bytes(8, "little"))
+
+    # ---- calls that look
+
+    def keys(self):
+        self.add(6, b"", line("keys", *(number for key in self.says("keys") for number in key)))
+
+    def next(self, key):
+        self.add(7, bytes(key), line("next", *(self.says("next_key", key) or ())))
+
+    def dump(self):
+        held = self.models[-1].words
+        self.add(9, b"", line("words", *(x for place, value in enumerate(held) if value for x in (place, value))))
+
+    def judge(self, *keys):
+        for key in keys:
+            self.add(10, bytes(key), line(*self.says("judge", key)))
+
+    def find(self, key, *spns):
+        for spn in spns:
+            found = self.says("find", key, spn)
+            self.add(11, bytes(key) + word(spn), line(*found.answer, *found[1:]))
+
+    def pack(self, key, numbers, buffer):
+        answer, after = self.says("pack", key, numbers, buffer)
+        given = case(12, bytes(key) + bytes([len(numbers)]) + len(buffer).to_bytes(2, "little"))
+        self.cases.append((given + words(numbers) + bytes(buffer), [line(*answer, bytes(after).hex())]))
+        return answer.number, after
+
+    def read(self, key, payload, room):
+        answer, after = self.says("read", key, payload, room)
+        given = case(13, bytes(key) + bytes([len(room)]) + len(payload).to_bytes(2, "little"))
+        self.cases.append((given + words(room) + bytes(payload), [line(*answer, *after)]))
+
+    def rows(self, key):
+        """The key's (SPN, start, width) where its map is usable."""
+        return self.models[-1].usable(key)[1]
+
+    def ask(self, dice, key):
+        """Everything that can be asked about a key: as it should be, and with lengths, numbers and SPNs that are wrong."""
+        self.judge(key)
+        rows = self.rows(key)
+        if rows is None:
+            self.find(key, 1517)
+            self.pack(key, [1, 2], dice.bytes(9))
+            self.read(key, dice.bytes(8), [1, 2, 3])
+            return
+        self.find(key, *(row[0] for row in rows), 0, 1, 521, TOP, dice.one_of(KNOWN))
+        numbers = [number_for(dice, width) for spn, start, width in rows]
+        size = model.length_of([row[1:] for row in rows])
+        for further in (0, 3):
+            number, after = self.pack(key, numbers, dice.bytes(size + further))
+            assert number == 0
+        self.read(key, after[:size], [dice.below(2**32) for _ in rows])
+        self.read(key, dice.bytes(size), [dice.below(2**32) for _ in range(len(rows) + 2)])
+        self.wrong(dice, key, rows, numbers, size)
+
+    def wrong(self, dice, key, rows, numbers, size):
+        for given, room in ((numbers[1:], size), (numbers + [0], size), (numbers, size - 1), (numbers, 0), ([], size)):
+            self.pack(key, given, dice.bytes(room))
+        for payload, room in ((size - 1, len(rows)), (size + 1, len(rows)), (size, max(len(rows) - 1, 0)), (0, len(rows))):
+            self.read(key, dice.bytes(payload), [7] * room)
+        narrow = [p for p, (spn, start, width) in enumerate(rows) if width < 32]
+        for wide in (narrow[:1], narrow[-1:], narrow[1::2]):
+            spoiled = list(numbers)
+            for p in wide:
+                spoiled[p] = dice.one_of([2 ** rows[p][2], TOP])
+            self.pack(key, spoiled, dice.bytes(size))
+            self.pack(key, spoiled, dice.bytes(size - 1))
+
+
+def cases(dice):
+    for make in (examples, rooms_for_16, conflicts, same_messages, other_keys, orders, usable_maps, judgements, not_held, refused):
+        yield from make(dice).cases
+    for _ in range(3):
+        yield from any_calls(dice).cases
+    for make in (odd_rows, *[any_words] * 40):
+        yield from make(dice).cases
+
+
+# ---- Maps that messages can carry
+
+def some_key(dice):
+    return dice.one_of([0, 38, dice.below(254), 253]), dice.one_of([0, 39, dice.below(256), 254, 255]), dice.within(1, 15)
+
+
+def teachable(dice, key, n, bits=249):
+    """The messages of a usable map that the wire can carry: starts up to 249."""
+    while True:
+        spns = dice.some(n, KNOWN)
+        start, placed = dice.one_of([0, 0, dice.below(9), dice.below(60)]), []
+        for spn in spns:
+            start += dice.one_of([0, 0, 0, 1, dice.below(6)])
+            placed.append((start, model.WIDTHS[spn]))
+            start += model.WIDTHS[spn]
+        if placed[-1][0] <= bits:
+            transport = 1 if model.length_of(placed) > 8 else 0
+            proprietary = dice.below(2)
+            return [Message(*key, n, proprietary, transport, p, spn, start)
+                    for p, (spn, (start, width)) in enumerate(zip(spns, placed), 1)]
+
+
+def how_many(dice):
+    """Few enough that the starts can be told by the wire."""
+    return dice.one_of([1, 2, 3, dice.within(2, 8), dice.within(2, 14)])
+
+
+def mixed(dice, messages):
+    return dice.some(len(messages), messages)
+
+
+# ---- 01's own
+
+def examples(dice):
+    """01's cases A and B by their messages, number 4 for 1519, and every other starred case that the wire can carry."""
+    run = Run()
+    run.keys()
+    run.dump()
+    a = [EXAMPLE, EXAMPLE._replace(position=2, spn=1519, start=8)]
+    run.learn(*a)
+    run.keys()
+    run.dump()
+    run.judge(a[0][:3])
+    run.pack(a[0][:3], [40, 1], [0] * 8)
+    run.pack(a[0][:3], [40, 4], [7] * 8)
+    run.pack(a[0][:3], [256, 4], [7] * 10)
+    run.read(a[0][:3], [0x28, 0xFD] + [255] * 6, [7, 7])
+    run.find(a[0][:3], 1517, 1519, 1518, 0)
+    b = [EXAMPLE._replace(k=2, position=2, start=4), EXAMPLE._replace(k=2, spn=1519)]
+    run.learn(*b)
+    run.judge(b[0][:3])
+    run.pack(b[0][:3], [2, 0xA5], [0] * 9)
+    run.read(b[0][:3], [0x5E, 0xFA] + [255] * 6, [7, 7, 7])
+    for k, said in enumerate(([(1517, 0), (1519, 7)], [(1519, 62)], [(1519, 63)]), 3):
+        for p, (spn, start) in enumerate(said, 1):
+            run.learn(EXAMPLE._replace(k=k, n=len(said), position=p, spn=spn, start=start))
+        run.judge((38, 39, k))
+        run.ask(dice, (38, 39, k))
+    run.learn(EXAMPLE._replace(k=6, n=1, transport=1, spn=1519, start=63))
+    run.ask(dice, (38, 39, 6))
+    run.keys()
+    return run
+
+
+def rooms_for_16(dice):
+    """Key 16 and key 17; then a forget, then key 17. Also where one of the 16 is in conflict, and one row after another."""
+    run = Run()
+    keys = mixed(dice, [(source, destination, k) for source in (0, 38, 253) for destination in (0, 255) for k in (1, 7, 15)])[:17]
+    messages = [EXAMPLE._replace(source=s, destination=d, k=k, n=1) for s, d, k in keys]
+    for message in messages:
+        run.learn(message)
+        run.keys()
+    run.learn(messages[3], messages[16]._replace(spn=1519), messages[5]._replace(spn=1519), messages[16])
+    run.judge(*keys)
+    run.dump()
+    run.forget(keys[16], keys[2])
+    run.judge(*keys)
+    run.learn(messages[16], messages[2])
+    run.keys()
+    run.judge(*keys)
+    run.dump()
+    for gone, come in ((5, 2), (0, 5), (16, 0), (1, 16)):
+        run.forget(keys[gone])
+        run.learn(messages[come], messages[gone])
+        run.judge(*keys)
+        run.keys()
+    run.forget(*keys)
+    run.keys()
+    run.dump()
+    run.learn(*reversed(messages))
+    run.keys()
+    return run
+
+
+OTHERS = [{"n": 3}, {"proprietary": 0}, {"transport": 1}, {"spn": 1519}, {"start": 1}, {"spn": 1519, "start": 1},
+          {"n": 3, "position": 2}, {"proprietary": 0, "position": 2, "start": 9}, {"transport": 1, "position": 2, "spn": 1519},
+          {"n": 31, "position": 31}, {"n": 3, "proprietary": 0, "transport": 1, "spn": 1519, "start": 1}]
+
+
+def conflicts(dice):
+    """Every way to contradict: with the first message, with a later one, at the same position or another; then a forget."""
+    run = Run()
+    key = EXAMPLE[:3]
+    second = EXAMPLE._replace(position=2, spn=1519, start=8)
+    beside = EXAMPLE._replace(k=2, n=1)
+    run.learn(beside)
+    for other in OTHERS:
+        against = EXAMPLE._replace(**other)
+        for order in ([EXAMPLE, against], [against, EXAMPLE], [EXAMPLE, second, against], [against, second, EXAMPLE], [second, against, EXAMPLE]):
+            for message in order:
+                run.learn(message)
+                run.judge(key)
+            run.learn(EXAMPLE, against, second)
+            run.ask(dice, key)
+            run.dump()
+            run.keys()
+            run.judge(beside[:3])
+            run.forget(key, key)
+            run.judge(key)
+        run.learn(EXAMPLE, second)
+        run.ask(dice, key)
+        run.forget(key)
+    return run
+
+
+def same_messages(dice):
+    """Repeats that differ in priority, or in first-only, or in neither: the same message."""
+    run = Run()
+    key = EXAMPLE[:3]
+    second = EXAMPLE._replace(position=2, spn=1519, start=8)
+    for priority in range(8):
+        for first in (0, 1):
+            run.learn(EXAMPLE, priority=priority, first=first)
+            run.judge(key)
+            run.learn(second, priority=priority)
+    run.learn(second, first=1)
+    run.dump()
+    run.ask(dice, key)
+    return run
+
+
+def other_keys(dice):
+    """The same fields, or contradicting ones, from another source, to another destination, or in another message."""
+    run = Run()
+    beside = [{"source": 39}, {"destination": 38}, {"source": 39, "destination": 38}, {"k": 2}, {"k": 15}, {"source": 0}, {"destination": 255},
+              {"destination": 0}, {"destination": 254}]
+    run.learn(EXAMPLE)
+    for other in beside:
+        run.learn(EXAMPLE._replace(**other))
+        run.learn(EXAMPLE._replace(**other, position=2, spn=1519, start=8))
+    run.judge(EXAMPLE[:3], *(EXAMPLE._replace(**other)[:3] for other in beside))
+    for other in beside[::2]:
+        run.learn(EXAMPLE._replace(**other, n=1))
+    run.judge(EXAMPLE[:3], *(EXAMPLE._replace(**other)[:3] for other in beside))
+    run.keys()
+    for key in ((38, 39, 1), (38, 39, 0), (38, 38, 255), (0, 0, 0), (255, 255, 255), (39, 38, 1), (39, 38, 2), (37, 255, 15)):
+        run.next(key)
+    for other in beside[1::2]:
+        run.forget(EXAMPLE._replace(**other)[:3])
+    run.judge(EXAMPLE[:3], *(EXAMPLE._replace(**other)[:3] for other in beside))
+    run.keys()
+    return run
+
+
+def orders(dice):
+    """One set in many orders, with repeats, and with another key's messages between: usable, and with a contradiction somewhere."""
+    run = Run()
+    for n in (3, 6):
+        key, other = (38, 39, 1), (39, 38, 1)
+        messages = teachable(dice, key, n)
+        for contradiction in (None, {"n": n + 1}, {"start": 200}):
+            told = messages + ([dice.one_of(messages)._replace(**contradiction)] if contradiction else [])
+            for _ in range(8):
+                for message in mixed(dice, told + [dice.one_of(told) for _ in range(n)]):
+                    run.learn(message)
+                    run.learn(message._replace(source=39, destination=38, n=n + 2))
+                run.judge(key, other)
+                run.find(key, messages[-1].spn)
+                run.pack(key, [0] * n, [7] * 40)
+                run.forget(key, other)
+    return run
+
+
+def usable_maps(dice):
+    """Maps of every size that come over the wire, in any order, with all questions."""
+    run = Run()
+    for n in [1] * 12 + [2] * 12 + [3, 5, 8, 8, 12, 12, 16, 16, 20, 24, 28, 31, 31]:
+        key = some_key(dice)
+        run.learn(*mixed(dice, teachable(dice, key, n)))
+        run.ask(dice, key)
+        run.keys()
+        run.forget(key)
+    return run
+
+
+def spoiled(dice, number, messages):
+    """The messages with what earns this judgement, unless another comes first or the map is too small for it."""
+    told = list(messages)
+    p = dice.below(len(told))
+    q = dice.below(p) if p else 0
+    if number == 1:
+        told.append(told[p]._replace(**dice.one_of(OTHERS[:6])))
+    elif number == 2:
+        told = told[:p] + told[p + 1:] or [told[0]._replace(n=2)]
+    elif number == 3:
+        told[p] = told[p]._replace(spn=dice.one_of([0, 521, 2848, 2**18 + 1517, 2**19 - 1]))
+    elif number == 4:
+        told[p] = told[p]._replace(spn=told[q].spn)
+    elif number == 5 and p:
+        told[p] = told[p]._replace(start=dice.one_of([told[p - 1].start, max(told[p - 1].start - 1, 0), told[q].start, 0]))
+    elif number == 6 and p:
+        told[p] = told[p]._replace(start=min(told[p - 1].start + dice.within(1, max(model.WIDTHS.get(told[p - 1].spn, 0) - 1, 1)), 249))
+    elif number == 8:
+        told = [message._replace(transport=1 - message.transport) for message in told]
+    return told
+
+
+def judgements(dice):
+    """Maps spoiled for each judgement that can arrive, then for several at once."""
+    run = Run()
+    for numbers in [[number] for number in (1, 2, 3, 4, 5, 6, 8) for _ in range(30)] + [dice.some(dice.within(2, 4), (2, 3, 4, 5, 6, 8)) for _ in range(80)]:
+        key = some_key(dice)
+        messages = teachable(dice, key, how_many(dice))
+        for number in numbers:
+            messages = spoiled(dice, number, messages)
+        run.learn(*mixed(dice, messages))
+        run.ask(dice, key)
+        run.forget(key)
+    return run
+
+
+def not_held(dice):
+    """Keys that are not held, also such as no message can name."""
+    run = Run()
+    run.learn(EXAMPLE._replace(n=1))
+    for key in ((38, 39, 2), (39, 39, 1), (38, 38, 1), (38, 39, 0), (38, 39, 16), (38, 39, 255), (254, 39, 1), (255, 39, 1), (0, 0, 0), (255, 255, 255)):
+        run.ask(dice, key)
+        run.forget(key)
+        run.next(key)
+    run.ask(dice, (38, 39, 1))
+    run.dump()
+    return run
+
+
+def refused(dice):
+    """Frames that are refused, each alone and in any company: the table holds what it held."""
+    run = Run()
+    run.learn(EXAMPLE, EXAMPLE._replace(position=2, spn=1519, start=8))
+    for chosen in range(2 ** len(rooms.FAULTS)):
+        said = {}
+        for i, fault in enumerate(rooms.FAULTS):
+            if chosen // 2**i % 2:
+                said.update(fault)
+        run.frame(*rooms.frame(**said))
+    for name, edges in rooms.EDGES.items():
+        for value in edges:
+            said = dict(rooms.well_formed(dice), **{name: value})
+            if run.frame(*rooms.frame(**said)) == 9:
+                run.forget(dice.one_of(run.says("keys")))
+        run.keys()
+    run.dump()
+    run.judge((38, 39, 1))
+    return run
+
+
+# ---- Calls one after another
+
+def any_calls(dice):
+    """Some thousand calls on 40 keys: maps come piece by piece, some spoiled, and are forgotten again."""
+    run = Run()
+    keys = []
+    while len(keys) < 40:
+        key = some_key(dice)
+        keys += [key] if key not in keys else []
+    messages = {key: teachable(dice, key, how_many(dice)) for key in keys}
+    for key in keys[::4]:
+        messages[key] = spoiled(dice, dice.one_of([1, 2, 3, 4, 5, 6, 8]), messages[key])
+    for turn in range(1500):
+        held = run.says("keys")
+        key = dice.one_of(keys if dice.below(3) or not held else held)
+        what = dice.below(100)
+        if what < 34:
+            run.learn(*(dice.one_of(messages[key]) for _ in range(dice.within(1, 3))), priority=dice.below(8))
+        elif what < 44:
+            run.learn(*mixed(dice, messages[key]))
+        elif what < 47:
+            run.frame(*rooms.frame(**dict(rooms.well_formed(dice), **dice.one_of(rooms.FAULTS))))
+        elif what < 48:
+            run.learn(dice.one_of(messages[key])._replace(**dice.one_of(OTHERS[:6])))
+        elif what < 66:
+            run.forget(key)
+        elif what < 78:
+            run.judge(key)
+        elif what < 83:
+            run.ask(dice, key)
+        elif what < 88:
+            run.find(key, dice.one_of(messages[key]).spn)
+        elif what < 95:
+            run.next(key)
+        elif what < 99:
+            run.keys()
+        else:
+            run.dump()
+    return run
+
+
+# ---- Words that no run makes
+
+def row_for(dice, key, rows, state=1, more_of_form=0):
+    """A row's words, for the (SPN, start) of its positions."""
+    form = len(rows) + 256 * dice.below(2) + 1024 * more_of_form
+    if model.length_of([(start, model.WIDTHS.get(spn, 0)) for spn, start in rows]) > 8:
+        form += 512
+    source, destination, k = key
+    return [state, source * 65536 + destination * 256 + k, form] + [1 + spn + start * 2**32 for spn, start in rows]
+
+
+def write_row(run, i, row):
+    for place, value in enumerate(row[:67]):
+        run.write(67 * i + place, value)
+
+
+def long_map(dice, n, last=None):
+    """n parameters beside each other, up to the last payload bit where it is said so."""
+    spns = dice.some(n, KNOWN)
+    start, rows = 0, []
+    for spn in spns:
+        rows.append((spn, start))
+        start += model.WIDTHS[spn] + dice.one_of([0, 0, 1, dice.below(20)])
+    by = (last or start) - (rows[-1][1] + model.WIDTHS[spns[-1]])
+    return [(spn, start + max(by, 0)) for spn, start in rows]
+
+
+def odd_rows(dice):
+    """Rows of one kind each: long payloads, 64 positions, judgement 7, states and forms and cells beyond what a message says, a key in two rows,
+    a key that no message names, a number that no key has."""
+    run = Run()
+    rows = [row_for(dice, (1, 2, 3), long_map(dice, 64)),
+            row_for(dice, (1, 2, 4), long_map(dice, 64, 14280)),
+            row_for(dice, (1, 2, 5), long_map(dice, 64, 14281)),
+            row_for(dice, (1, 2, 6), [(1517, 14272)]),
+            row_for(dice, (1, 2, 7), [(1517, 14273)]),
+            row_for(dice, (1, 2, 8), [(1519, 0), (1517, 2**32 - 1)]),
+            row_for(dice, (254, 2, 0), [(1519, 0), (2**32 - 1, 8)]),
+            row_for(dice, (255, 255, 255), [(1519, 0), (1517, 8)], more_of_form=2**54 - 1),
+            row_for(dice, (1, 2, 3), [(1517, 0)], state=2),
+            row_for(dice, (1, 2, 9), [(1517, 0)], state=2**64 - 1),
+            [1, 2**24, 1, 1 + 1517],
+            [1, 2**64 - 1, 1, 1 + 1517],
+            [1, 66060, 0],
+            [1, 66061, 512],
+            [1, 66062, 65] + [1 + 1517] * 64,
+            [1, 66063, 255, 1 + 1517]]
+    for i, row in enumerate(rows):
+        write_row(run, i, row)
+    keys = [(1, 2, k) for k in range(3, 16)] + [(254, 2, 0), (255, 255, 255), (0, 0, 0)]
+    for key in keys:
+        run.ask(dice, key)
+        run.next(key)
+    run.keys()
+    run.learn(EXAMPLE, EXAMPLE._replace(source=1, destination=2, k=3, n=64 % 32 + 1))
+    run.dump()
+    for key in keys + [(1, 2, 3)]:
+        run.forget(key)
+        run.keys()
+        run.judge((1, 2, 3))
+    run.dump()
+    run.learn(*(EXAMPLE._replace(k=k) for k in range(1, 16)))
+    run.dump()
+    return run
+
+
+def any_cell(dice):
+    spn = dice.one_of([1517, 1519, dice.one_of(KNOWN), dice.one_of(KNOWN), dice.below(2**19), dice.below(2**32)])
+    start = dice.one_of([dice.below(64), dice.below(250), dice.below(14280), dice.within(14240, 14290), dice.below(2**32)])
+    return dice.one_of([1 + spn + start * 2**32] * 5 + [0, 0, dice.below(2**32), 2**64 - 1])
+
+
+def any_words(dice):
+    """Tables with rows of every kind at random, and calls on their keys."""
+    run = Run()
+    keys = [some_key(dice) for _ in range(dice.within(4, 12))]
+    for i in range(16):
+        key = dice.one_of(keys)
+        kind = dice.below(6)
+        if kind < 3:
+            row = row_for(dice, key, long_map(dice, dice.one_of([1, 2, 3, dice.within(1, 20)])),
+                          dice.one_of([1, 1, 1, 1, 0, 2, 3, 2**32, 2**64 - 1]), dice.one_of([0, 0, dice.below(2**32)]))
+        elif kind == 3:
+            m = [message for message in teachable(dice, key, how_many(dice))]
+            row = [1, *row_for(dice, key, [])[1:2], m[0].n + 256 * m[0].proprietary + 512 * m[0].transport] + [cell_of(message) for message in m]
+        elif kind == 4:
+            n = dice.one_of([0, 1, 2, 5, 63, 64, 65, 200, 255])
+            row = [1, *row_for(dice, key, [])[1:2], n + 256 * dice.below(4)] + [any_cell(dice) for _ in range(dice.one_of([n, n, dice.below(65)]))]
+        else:
+            row = [dice.one_of([0, 1, 1, dice.below(2**32)]), dice.one_of([dice.below(2**24), 2**24 + dice.below(9), dice.below(2**32) * 2**32]),
+                   dice.one_of([dice.below(2**10), dice.below(2**32) * 2**32 + dice.below(2**10)])] + [any_cell(dice) for _ in range(4)]
+        write_row(run, i, row)
+    run.keys()
+    for _ in range(30):
+        key = dice.one_of(keys)
+        what = dice.below(12)
+        if what < 5:
+            run.learn(*learnable(dice, run, key))
+        elif what < 6:
+            run.forget(key)
+        elif what < 8:
+            run.judge(key)
+        elif what < 10:
+            run.ask(dice, key)
+        elif what < 11:
+            run.next(key)
+        else:
+            run.keys()
+    for key in keys:
+        run.judge(key)
+    run.dump()
+    return run
+
+
+def learnable(dice, run, key):
+    """Messages for a key: any, or such as its row already says."""
+    rows = [run.models[-1].rows()[i] for i in run.models[-1].rows_of(key)]
+    messages = teachable(dice, key, how_many(dice))[:3]
+    form = rows[0][2] if rows else 0
+    if 1 <= form % 256 <= 31 and dice.below(4):
+        n, proprietary, transport = form % 256, form // 256 % 2, form // 512 % 2
+        messages = [m._replace(n=n, proprietary=proprietary, transport=transport, position=min(m.position, n)) for m in messages]
+        cell = rows[0][2 + messages[0].position]
+        spn, start = (cell - 1) % 2**32, (cell - 1) // 2**32
+        if cell and spn < 2**19 and start <= 249 and dice.below(2):
+            messages[0] = messages[0]._replace(spn=spn, start=start)
+    return messages
