@@ -4,7 +4,7 @@ ghost use mathlib.Core.Path.{_≡_};
 ghost use mathlib.Core.List.{[], _∷_, _++_};
 ghost use mathlib.Core.Bool.{cond};
 ghost use Prim.Native.Nat.{_+_, _≤_};
-ghost use lib.ListN.{length, take};
+ghost use lib.ListN.{length};
 ghost use Rattle.answers.specs.Answers.{at as judgedAt, outcome, inNumbers};
 ghost use Rattle.text.specs.Text.{decimalOf, page};
 ghost use Rattle.record.specs.Cut.{leftOf, over};
