@@ -332,7 +332,7 @@ def usable_maps(dice):
 def spoiled(dice, number, messages):
     """The messages with what earns this judgement, unless another comes first or the map is too small for it."""
     told = list(messages)
-    p = dice.below(len(told))
+    p = dice.within(1 if number in (4, 5, 6) and len(told) > 1 else 0, len(told) - 1)
     q = dice.below(p) if p else 0
     if number == 1:
         told.append(told[p]._replace(**dice.one_of(OTHERS[:6])))
@@ -354,9 +354,10 @@ def spoiled(dice, number, messages):
 def judgements(dice):
     """Maps spoiled for each judgement that can arrive, then for several at once."""
     run = Run()
-    for numbers in [[number] for number in (1, 2, 3, 4, 5, 6, 8) for _ in range(30)] + [dice.some(dice.within(2, 4), (2, 3, 4, 5, 6, 8)) for _ in range(80)]:
+    alone = [[number] for number in (1, 2, 3, 4, 5, 6, 8) for _ in range(30)]
+    for numbers in alone + [dice.some(dice.within(2, 4), (2, 3, 4, 5, 6, 8)) for _ in range(80)]:
         key = some_key(dice)
-        messages = teachable(dice, key, how_many(dice))
+        messages = teachable(dice, key, dice.one_of([1, 2, dice.within(2, 8), dice.within(2, 14)]))
         for number in numbers:
             messages = spoiled(dice, number, messages)
         run.learn(*mixed(dice, messages))
@@ -520,7 +521,7 @@ def any_words(dice):
         key = dice.one_of(keys)
         kind = dice.below(6)
         if kind < 3:
-            row = row_for(dice, key, long_map(dice, dice.one_of([1, 2, 3, dice.within(1, 20)])),
+            row = row_for(dice, key, long_map(dice, dice.one_of([1, 2, 3, dice.within(1, 20)]), dice.one_of([None, None, 14280, 14281, 14300])),
                           dice.one_of([1, 1, 1, 1, 0, 2, 3, 2**32, 2**64 - 1]), dice.one_of([0, 0, dice.below(2**32)]))
         elif kind == 3:
             m = [message for message in teachable(dice, key, how_many(dice))]
