@@ -1,3 +1,4 @@
 pub mod Unfolded
 pub mod Calls
 pub mod Keys
+pub mod Laws

@@ -1,5 +1,5 @@
 -- What the lists of a row's 64 cells say: the map's own starts and widths, and the same judgement. Assumes nothing.
-use Prim.Native.Nat.{ℕ, zero, suc, _+_, _-_, _≤_, _<_}
+use Prim.Native.Nat.{ℕ, zero, suc, _+_, _-_, _/_, _%_, _^_, _≤_, _<_}
 use mathlib.Core.Path.{_≡_, refl, sym, ap, _∙_, fun-ext}
 use mathlib.Core.Bool.{Bool, true, false, cond, true≢false}
 use mathlib.Core.List.{List, _∷_, _++_}
@@ -32,6 +32,16 @@ pub cell-at : (row : List ℕ) (i : ℕ) → i < positions → withWidth widthOf
 cell-at row i l =
     let e : 3 + i ≡ 2 + suc i = omega arith in
     rw (e, le-leb 1 (suc i) (omega arith), le-leb (suc i) positions l)
+
+-- the width of a cell's parameter, asked by its SPN
+pub width-of-cell : (cell spn w : ℕ) → spn ≡ spnIn (withWidth widthOf (placeOf cell)) → w ≡ cond (eqb cell 0) mark (widthOf spn)
+    → w ≡ markedWidth (withWidth widthOf (placeOf cell))
+width-of-cell cell spn w e f = f ∙ rw e (go (eqb cell 0))
+  where
+    go : (b : Bool) → cond b mark (widthOf (spnIn (withWidth widthOf (cond b none (some (record { spn = (cell - 1) % 2 ^ 32; start = (cell - 1) / 2 ^ 32 }))))))
+        ≡ markedWidth (withWidth widthOf (cond b none (some (record { spn = (cell - 1) % 2 ^ 32; start = (cell - 1) / 2 ^ 32 }))))
+    go true = refl
+    go false = refl
 
 -- a turn of `unfold_row`: one number more is written, that of the parameter at index i
 pub turn : (f : Option Param → ℕ) (row d xs : List ℕ) (i v : ℕ) → length d ≡ positions → i < positions

@@ -1,6 +1,7 @@
 // Every question about a key: judging its map, packing and reading its payloads, finding an SPN in it (01, "Answer numbers"). The learned table is
 // lent as words; whatever they hold, each call has its defined answer, and none changes them. A call finds its key's row once and unfolds it once.
 ghost use mathlib.Core.Path.{_≡_};
+ghost use mathlib.Core.Bool.{cond};
 ghost use mathlib.Core.List.{List};
 ghost use Prim.Native.Nat.{ℕ, _≤_};
 ghost use lib.Dec.{eqb};
@@ -9,19 +10,29 @@ ghost use Rattle.answers.specs.Answers.{saidOf, inNumbers, outcome};
 ghost use Rattle.payload.specs.Bits.{lowest};
 ghost use Rattle.payload.specs.Calls.{toldBy};
 ghost use Rattle.dictionary.specs.Dictionary.{widthOf};
-ghost use Rattle.maps.specs.Judge.{spnIn, startIn, withWidth, judge as judgementOf};
+ghost use Rattle.maps.specs.Judge.{spnIn, startIn, withWidth, mark, judge as judgementOf};
 ghost use Rattle.table.specs.Layout.{tableWords, rowWords, positions, keyOf};
 ghost use Rattle.table.specs.View.{headOf, placeOf, rowMap, mapIn};
 ghost use Rattle.ask.specs.Ask.{judgedBy, packedBy, readBy, foundIn, notFound, foundBy};
-ghost use Rattle.ask.specs.Unfolded.{markedWidth, spnsIn, startsIn, widthsIn, rowFor, asOutcome};
+ghost use Rattle.ask.specs.Unfolded.{spnsIn, startsIn, widthsIn, rowFor, asOutcome};
 use answers::Answer;
 use answers::Judgement;
 use payload::Laying;
 use table::WORDS;
 
+// The table: 16 rows of 67 words.
 const ROWS: usize = 16;
 
 const ROW_WORDS: usize = 67;
+
+// A row: its state, of which 1 is held and any other in conflict; n and the flags; from CELLS on a cell for each of 64 positions.
+const STATE: usize = 0;
+
+const HELD: u64 = 1;
+
+const FORM: usize = 2;
+
+const CELLS: usize = 3;
 
 const POSITIONS: usize = 64;
 
@@ -69,14 +80,15 @@ fn start_of(cell: u64) -> u32
     ((cell - 1) / 4294967296) as u32
 }
 
-// The width of a cell's parameter, or the mark that nothing stands there. Every width that a call uses comes from here.
-fn width_in(cell: u64) -> u32
-    ensures { λ r. ⌜ r ≡ markedWidth (withWidth widthOf (placeOf cell)) ⌝ }
+// The width of a cell's parameter by its SPN, or the mark that nothing stands there. Every width that a call uses comes from here, once for each
+// parameter.
+fn width_in(cell: u64, spn: u32) -> u32
+    ensures { λ r. ⌜ r ≡ cond (eqb cell 0) mark (widthOf spn) ⌝ }
 {
     if cell == 0 {
         return maps::MISSING;
     }
-    dictionary::width_of(spn_of(cell))
+    dictionary::width_of(spn)
 }
 
 // Unfolds a row: its 64 cells as SPNs, starts and widths.
@@ -87,10 +99,12 @@ fn unfold_row(row: &[u64], spns: &mut [u32], starts: &mut [u32], widths: &mut [u
 {
     let mut i = 0;
     while i < POSITIONS {
-        let cell = row[3 + i];
-        spns[i] = spn_of(cell);
-        starts[i] = start_of(cell);
-        widths[i] = width_in(cell);
+        let cell = row[CELLS + i];
+        let spn = spn_of(cell);
+        let start = start_of(cell);
+        spns[i] = spn;
+        starts[i] = start;
+        widths[i] = width_in(cell, spn);
         i += 1;
     }
 }
@@ -102,10 +116,10 @@ fn judge_row(row: &[u64], spns: &mut [u32], starts: &mut [u32], widths: &mut [u3
         × (now (starts .exit) ≡ startsIn (now (row .entry))) × (now (widths .exit) ≡ widthsIn (now (row .entry))) ⌝ }
 {
     unfold_row(row, spns, starts, widths);
-    if row[0] != 1 {
+    if row[STATE] != HELD {
         return Judgement::Conflict;
     }
-    let form = row[2];
+    let form = row[FORM];
     maps::judge(n_of(form), transport_of(form), spns, starts, widths)
 }
 
@@ -130,10 +144,10 @@ fn pack_row(row: &[u64], numbers: &[u32], out: &mut [u8]) -> Answer
     let mut starts = [0u32; POSITIONS];
     let mut widths = [0u32; POSITIONS];
     let judgement = judge_row(row, &mut spns, &mut starts, &mut widths);
-    if answers::number_of(judgement) != 0 {
+    if answers::number_of(judgement) != 0 { // 12, before 13 and 14
         return answers::not_usable(judgement);
     }
-    let n = n_of(row[2]) as usize;
+    let n = n_of(row[FORM]) as usize;
     told(payload::pack(&starts[..n], &widths[..n], numbers, out))
 }
 
@@ -146,10 +160,10 @@ fn read_row(row: &[u64], payload: &[u8], room: &mut [u32]) -> Answer
     let mut starts = [0u32; POSITIONS];
     let mut widths = [0u32; POSITIONS];
     let judgement = judge_row(row, &mut spns, &mut starts, &mut widths);
-    if answers::number_of(judgement) != 0 {
+    if answers::number_of(judgement) != 0 { // 12, before 13
         return answers::not_usable(judgement);
     }
-    let n = n_of(row[2]) as usize;
+    let n = n_of(row[FORM]) as usize;
     told(payload::read(&starts[..n], &widths[..n], payload, room))
 }
 
@@ -189,10 +203,10 @@ fn find_row(row: &[u64], spn: u32) -> Found
     let mut starts = [0u32; POSITIONS];
     let mut widths = [0u32; POSITIONS];
     let judgement = judge_row(row, &mut spns, &mut starts, &mut widths);
-    if answers::number_of(judgement) != 0 {
+    if answers::number_of(judgement) != 0 { // 12, before 18
         return refused(answers::not_usable(judgement));
     }
-    let position = position_in(&spns, n_of(row[2]), spn);
+    let position = position_in(&spns, n_of(row[FORM]), spn);
     if position == 0 {
         return refused(answers::plainly(18));
     }

@@ -3,20 +3,36 @@ use Prim.Native.Nat.{ℕ, suc, _≤_}
 use native.Mathlib.Omega.{arith}
 use mathlib.Core.Path.{_≡_, refl, sym, ap, _∙_, fun-ext}
 use mathlib.Core.Logic.{_↔_}
-use mathlib.Core.Bool.{Bool, true, false, cond, _&&_, not, and-eq-true-iff, and-false}
+use mathlib.Core.Bool.{Bool, true, false, cond, not, and-eq-true-iff, and-false}
 use mathlib.Core.List.{List, [], _∷_}
 use lib.ListN.{length}
-use lib.Dec.{eqb, leb}
+use lib.Dec.{eqb}
 use borrow.Author.Tests.{leb-true, leb-false, le-leb}
 use Rattle.message.specs.declared.Key.{Key}
 use Rattle.message.specs.declared.Message.{Message}
-use Rattle.maps.specs.Maps.{sameKey, conflict, Map, Nothing, Conflict, Held, mapOf, SameMembers}
+use Rattle.maps.specs.Maps.{sameKey, conflict, Map, Nothing, Conflict, Held, mapOf, learned, SameMembers}
 use Rattle.maps.proofs.Tests.{test, never, key-eq}
-use Rattle.maps.proofs.Maps.{same-map}
-use Rattle.history.specs.History.{mostKeys, Event, Learn, Forget, names, isEmpty, since, without, keys, noRoom, answer, kept, setOf, Few}
-use Rattle.history.specs.Table.{Table, isNothing, full, number, step, after}
-use Rattle.history.proofs.Follows.{Follows, Calls, follows, answers}
+use Rattle.maps.proofs.Maps.{same-map, map-more}
+use Rattle.history.specs.History.{mostKeys, Event, Learn, Forget, names, isEmpty, since, keys, noRoom, answer, kept, setOf, Few}
+use Rattle.history.specs.Table.{Table, isNothing, isConflict, full, number, after}
+use Rattle.history.proofs.Follows.{conflict-is, Calls, follows, answers}
 use Rattle.history.proofs.Keys.{has, without-le, without-one, has-keys, keys-once}
+
+-- ---- which events are answered 9
+
+ten-or-zero : (c : Bool) → eqb (cond {A = ℕ} c 10 0) 9 ≡ false
+ten-or-zero true = refl
+ten-or-zero false = refl
+
+eleven-or-zero : (c : Bool) → eqb (cond {A = ℕ} c 11 0) 9 ≡ false
+eleven-or-zero true = refl
+eleven-or-zero false = refl
+
+pub nine-if-full : (t : Table) (m : Message) → eqb (number t (Learn m)) 9 ≡ full t (m .key)
+nine-if-full t m = test (full t (m .key)) (λ e. rw e) (λ f. rw f (ten-or-zero (isConflict (learned (t .look (m .key)) m))))
+
+pub never-nine : (t : Table) (k : Key) → eqb (number t (Forget k)) 9 ≡ false
+never-nine t k = eleven-or-zero (isNothing (t .look k))
 
 -- ---- every answer is the defined one, and what is held of a key is the map of its set, whatever the history
 
@@ -28,15 +44,8 @@ row-is c k = follows c .rows k
 
 -- ---- where at no moment more than 16 keys have messages, none is left out
 
-ten-or-zero : (c : Bool) → eqb (cond {A = ℕ} c 10 0) 9 ≡ false
-ten-or-zero true = refl
-ten-or-zero false = refl
-
-eleven-or-zero : (c : Bool) → eqb (cond {A = ℕ} c 11 0) 9 ≡ false
-eleven-or-zero true = refl
-eleven-or-zero false = refl
-
-room : (h : List Event) (m : Message) → length (keys (Learn m ∷ h)) ≤ mostKeys → noRoom h (m .key) ≡ false
+-- a message that keeps within 16 keys has room
+pub room : (h : List Event) (m : Message) → length (keys (Learn m ∷ h)) ≤ mostKeys → noRoom h (m .key) ≡ false
 unfolding noRoom
 room h m b =
     test (noRoom h (m .key))
@@ -61,6 +70,12 @@ demand-answer {h} c u e = answered c e ∙ ap (λ (g : List Event). answer g e) 
 -- order, repeats and other keys don't count
 pub demand-order : {h g : List Event} {t u : Table} → Calls h t → Calls g u → Few h → Few g → (k : Key) → SameMembers (since h k) (since g k) → t .look k ≡ u .look k
 demand-order {h} {g} c d u v k same = demand-row c u k ∙ same-map (since h k) (since g k) same ∙ sym (demand-row d v k)
+
+pub same-conflict : (m : Message) (s t : List Message) → SameMembers s t → conflict (m ∷ s) ≡ conflict (m ∷ t)
+same-conflict m s t same =
+    sym (conflict-is m s)
+    ∙ ap isConflict (map-more m s ∙ ap (λ (M : Map). learned M m) (same-map s t same) ∙ sym (map-more m t))
+    ∙ conflict-is m t
 
 -- ---- an event that names another key leaves what is held of a key
 
@@ -120,10 +135,19 @@ nine {h} {t} s m =
       λ u. answered s (Learn m) ∙ is-nine b c .1 (no-room-is (kept h) (m .key) .1 (u .0, omega (arith, u .1))),
     )
 
--- a forget makes room: where a held key is forgotten, no key is refused for want of room
-pub freed : (h : List Event) (k j : Key) → length (keys h) ≤ mostKeys → (since h k ≡ [] → ⊥) → noRoom (Forget k ∷ h) j ≡ false
-freed h k j b held =
-    test (noRoom (Forget k ∷ h) j) (λ t. absurd (omega (arith, no-room-is (Forget k ∷ h) j .0 t .1, without-one k (keys h) (keys-once h) there))) (λ f. f)
+-- ---- a forget makes room
+
+kept-forget : (h : List Event) (k : Key) → kept (Forget k ∷ h) ≡ Forget k ∷ kept h
+kept-forget h k = rw (eleven-or-zero (isEmpty (setOf h k)))
+
+-- where a held key is forgotten, one key less is held
+pub one-less : (h : List Event) (k : Key) → (setOf h k ≡ [] → ⊥) → suc (length (keys (kept (Forget k ∷ h)))) ≡ length (keys (kept h))
+one-less h k held = rw (kept-forget h k) (without-one k (keys (kept h)) (keys-once (kept h)) there)
   where
-    there : has k (keys h) ≡ true
-    there = has-keys h k ∙ test (isEmpty (since h k)) (λ e. absurd (held (empty-is (since h k) .0 e))) (λ n. rw n)
+    there : has k (keys (kept h)) ≡ true
+    there = has-keys (kept h) k ∙ test (isEmpty (setOf h k)) (λ e. absurd (held (empty-is (setOf h k) .0 e))) (λ n. rw n)
+
+-- so no key is refused for want of room
+pub freed : (h : List Event) (k j : Key) → (setOf h k ≡ [] → ⊥) → noRoom (kept (Forget k ∷ h)) j ≡ false
+freed h k j held =
+    test (noRoom (kept (Forget k ∷ h)) j) (λ t. absurd (omega (arith, no-room-is (kept (Forget k ∷ h)) j .0 t .1, one-less h k held, at-most h))) (λ f. f)

@@ -1,18 +1,17 @@
 -- A table that does with each event what specs/Table.antt says holds, after any history, of each key the map of its set, and gives each event
 -- the answer that is defined from the history, in whatever layout. Assumes nothing.
-use Prim.Native.Nat.{ℕ}
-use mathlib.Core.Path.{_≡_, refl, sym, ap, _∙_}
-use mathlib.Core.Bool.{Bool, true, false, cond, _&&_, not}
+use mathlib.Core.Path.{_≡_, refl, sym, _∙_}
+use mathlib.Core.Bool.{cond, not}
 use mathlib.Core.List.{List, [], _∷_}
 use lib.ListN.{length}
 use lib.Dec.{eqb}
 use Rattle.message.specs.declared.Key.{Key}
 use Rattle.message.specs.declared.Message.{Message}
-use Rattle.maps.specs.Maps.{conflict, Map, Nothing, mapOf, learned}
+use Rattle.maps.specs.Maps.{conflict, Nothing, mapOf}
 use Rattle.maps.proofs.Tests.{test}
 use Rattle.maps.proofs.Maps.{map-more}
-use Rattle.history.specs.History.{Event, Learn, Forget, names, isEmpty, since, keys, noRoom, answer, kept}
-use Rattle.history.specs.Table.{Table, isNothing, isConflict, full, number, step, after}
+use Rattle.history.specs.History.{Event, Learn, Forget, isEmpty, since, keys, noRoom, answer, kept}
+use Rattle.history.specs.Table.{Table, isNothing, isConflict, full, number, after}
 use Rattle.history.proofs.Since.{one-event}
 use Rattle.history.proofs.Keys.{has, Once, has-keys, keys-once, same-count}
 
@@ -27,7 +26,7 @@ pub nothing-is : (s : List Message) → isNothing (mapOf s) ≡ isEmpty s
 nothing-is [] = refl
 nothing-is (m ∷ s) = test (conflict (m ∷ s)) (λ t. rw t) (λ f. rw f)
 
-conflict-is : (m : Message) (s : List Message) → isConflict (mapOf (m ∷ s)) ≡ conflict (m ∷ s)
+pub conflict-is : (m : Message) (s : List Message) → isConflict (mapOf (m ∷ s)) ≡ conflict (m ∷ s)
 conflict-is m s = test (conflict (m ∷ s)) (λ t. rw t) (λ f. rw f)
 
 full-is : (t : Table) (h : List Event) (k : Key) → Follows t h → full t k ≡ noRoom h k

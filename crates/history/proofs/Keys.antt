@@ -1,15 +1,15 @@
 -- The keys of a history: those whose collection is not empty, each once; and how many they are. Assumes nothing.
-use Prim.Native.Nat.{ℕ, suc, _≤_}
+use Prim.Native.Nat.{suc, _≤_}
 use native.Mathlib.Omega.{arith}
 use mathlib.Core.Path.{_≡_, refl, sym, ap, _∙_}
-use mathlib.Core.Bool.{Bool, true, false, cond, _&&_, _||_, not, and-false}
+use mathlib.Core.Bool.{Bool, true, false, _&&_, _||_, not, and-false}
 use mathlib.Core.List.{List, [], _∷_}
 use lib.ListN.{length}
 use Rattle.words.specs.Runs as runs
 use Rattle.message.specs.declared.Key.{Key}
 use Rattle.maps.specs.Maps.{sameKey}
 use Rattle.maps.proofs.Tests.{test, never, key-eq, key-refl}
-use Rattle.history.specs.History.{Event, Learn, Forget, names, isEmpty, since, without, keys}
+use Rattle.history.specs.History.{Event, Learn, Forget, isEmpty, since, without, keys}
 
 -- the key stands in the list
 abbrev pub has : Key → List Key → Bool

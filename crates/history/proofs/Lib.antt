@@ -2,3 +2,4 @@ pub mod Since
 pub mod Keys
 pub mod Follows
 pub mod Demand
+pub mod Same

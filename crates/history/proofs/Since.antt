@@ -1,12 +1,12 @@
 -- What one event more makes of a key's collection, and of its map. Assumes nothing.
 use mathlib.Core.Path.{_≡_, refl, sym, ap, _∙_}
-use mathlib.Core.Bool.{Bool, true, false, cond}
+use mathlib.Core.Bool.{true, false, cond}
 use mathlib.Core.List.{List, [], _∷_}
 use Rattle.words.specs.Runs as runs
 use Rattle.words.proofs.Runs.{fold-since}
 use Rattle.message.specs.declared.Key.{Key}
 use Rattle.message.specs.declared.Message.{Message}
-use Rattle.maps.specs.Maps.{sameKey, Map, Nothing, mapOf, learned}
+use Rattle.maps.specs.Maps.{Map, Nothing, mapOf, learned}
 use Rattle.maps.proofs.Tests.{test, never, key-refl}
 use Rattle.maps.proofs.Maps.{map-more}
 use Rattle.history.specs.History.{Event, Learn, Forget, names, forgets, messages, since}

@@ -1,20 +1,18 @@
 -- What a judgement tells: the position that it names, and all that holds of a usable map.
 -- Assumes nothing; of a dictionary, where widths are bounded, that it gives none above 32.
 use Prim.Native.Nat.{ℕ, zero, suc, _+_, _≤_, _<_}
-use mathlib.Core.Path.{_≡_, refl, sym, ap, _∙_}
-use mathlib.Core.Bool.{Bool, true, false, cond, _||_, _&&_, and-eq-true-iff}
+use mathlib.Core.Path.{_≡_, refl, ap, _∙_}
+use mathlib.Core.Bool.{Bool, true, false, cond, _&&_, and-eq-true-iff}
 use mathlib.Core.Option.{Option, none, some}
 use mathlib.Core.List.{List}
-use mathlib.Core.Logic.{⊎-elim, inl}
 use native.Mathlib.Numerals.{add-one}
 use native.Mathlib.Omega.{arith}
-use borrow.Author.Tests.{eqb-true, eqb-false, ltb-true, ltb-false, leb-true, leb-false, le-ltb, lt-leb, ne-eqb, eq-eqb}
-use lib.Dec.{eqb, ltb, leb}
+use borrow.Author.Tests.{eqb-true, eqb-false, ltb-false, leb-true, leb-false, le-ltb, lt-leb, ne-eqb}
+use lib.Dec.{leb}
 use lib.ListN.{length, getD}
-use Rattle.answers.specs.Answers.{Judged, at}
-use Rattle.message.specs.declared.Head.{Head}
+use Rattle.answers.specs.Answers.{at}
 use Rattle.message.specs.declared.Place.{Place}
-use Rattle.payload.specs.Bits.{any, lowest, tabulate}
+use Rattle.payload.specs.Bits.{lowest}
 use Rattle.payload.specs.Place.{endOf, sharesBit, endIn, endTo, bytesFor, sizeOf}
 use Rattle.payload.specs.Payload.{Apart}
 use Rattle.payload.specs.Calls.{unplacedIn}
@@ -23,9 +21,9 @@ use Rattle.payload.proofs.Bits.{length-tabulate, get-tabulate}
 use Rattle.payload.proofs.Place.{apart}
 use Rattle.payload.proofs.Placed.{none-unplaced}
 use Rattle.maps.specs.Maps.{Map, Nothing, Conflict, Held}
-use Rattle.maps.specs.Judge.{Param, withWidth, measured, isNone, spnAt, startAt, widthAt, widthIn, everyone, missing, unknown, repeated, notAbove, overlaps, beyond, wrongTransport, rules, firstNamed, sizeOver, judgeOver, judge, usable, countOf, paramsOf, spnsOf, startsOf, widthsOf, lengthOf}
-use Rattle.maps.proofs.Tests.{test, never}
-use Rattle.maps.proofs.Rules.{Passed, Ruled, Named, passed, all-passed, first-named, lowest-most}
+use Rattle.maps.specs.Judge.{Param, withWidth, measured, isNone, spnAt, startAt, widthAt, widthIn, everyone, notAbove, wrongTransport, rules, sizeOver, judgeOver, judge, usable, countOf, paramsOf, spnsOf, startsOf, widthsOf, lengthOf}
+use Rattle.maps.proofs.Tests.{never}
+use Rattle.maps.proofs.Rules.{Ruled, Named, passed, all-passed, first-named, nameless, lowest-most}
 
 -- all that the rules ask of n parameters and a transport flag
 pub record Sound (n : ℕ) (transport : Bool) (ps : ℕ → Option Param) : Type 0 where
@@ -39,14 +37,14 @@ pub record Sound (n : ℕ) (transport : Bool) (ps : ℕ → Option Param) : Type
 
 module _ (n : ℕ) (transport : Bool) (ps : ℕ → Option Param) where
   ruled : Ruled n (rules everyone n ps)
-  ruled = (rule 2 _ refl, (rule 3 _ refl, (rule 4 _ refl, (rule 5 _ refl, (rule 6 _ refl, (rule 7 _ refl, tt))))))
+  ruled = (rule _ _ refl, (rule _ _ refl, (rule _ _ refl, (rule _ _ refl, (rule _ _ refl, (rule _ _ refl, tt))))))
     where
       rule : (k : ℕ) (t : ℕ → Bool) → leb 2 k && leb k 7 ≡ true → (2 ≤ k) × (k ≤ 7) × (lowest t n ≤ n)
       rule k t e = let (a, b) = and-eq-true-iff (leb 2 k) (leb k 7) .0 e in (leb-true 2 k a, leb-true k 7 b, lowest-most t n)
 
   last-named : (b : Bool) → Named n (at (cond b 8 0) 0)
-  last-named true = record { number = omega arith; some = λ l m. absurd (omega arith); none = λ h. refl }
-  last-named false = record { number = omega arith; some = λ l m. absurd (omega arith); none = λ h. refl }
+  last-named true = nameless n 8 (omega arith) (λ l m. omega arith)
+  last-named false = nameless n 0 (omega arith) (λ l m. omega arith)
 
   -- 2 to 7 name a position from 1 to n; 0, 1 and 8 name none
   pub judged-named : Named n (judgeOver n transport ps)
@@ -111,22 +109,22 @@ pub same-judgement : (widthOf : ℕ → ℕ) (l m : Map) → l ≡ m → judge w
 same-judgement widthOf l m e = ap (judge widthOf) e
 
 pub judge-named : (widthOf : ℕ → ℕ) (m : Map) → Named (countOf m) (judge widthOf m)
-judge-named widthOf Nothing = record { number = omega arith; some = λ l m. absurd (omega arith); none = λ h. refl }
-judge-named widthOf Conflict = record { number = omega arith; some = λ l m. absurd (omega arith); none = λ h. refl }
+judge-named widthOf Nothing = nameless 0 0 (omega arith) (λ l m. omega arith)
+judge-named widthOf Conflict = nameless 0 1 (omega arith) (λ l m. omega arith)
 judge-named widthOf (Held h places) = judged-named (h .n) (h .transport) (measured widthOf places)
 
--- "usable" is judgement 0, and that names no position
-pub usable-judged : (widthOf : ℕ → ℕ) (m : Map) → usable widthOf m ≡ true → judge widthOf m ≡ at 0 0
-usable-judged widthOf Nothing e = never e refl
-usable-judged widthOf Conflict e = never e refl
-usable-judged widthOf (Held h places) e =
-    sound-usable (h .n) (h .transport) _ (sound (h .n) (h .transport) _ (eqb-true (judge widthOf (Held h places) .number) 0 e))
-
 module _ (widthOf : ℕ → ℕ) where
+  -- a usable map meets every rule
   pub usable-sound : (m : Map) → usable widthOf m ≡ true → Sound (countOf m) (transportOf m) (paramsOf widthOf m)
   usable-sound Nothing e = never e refl
   usable-sound Conflict e = never e refl
   usable-sound (Held h places) e = sound (h .n) (h .transport) _ (eqb-true (judge widthOf (Held h places) .number) 0 e)
+
+  -- "usable" is judgement 0, and that names no position
+  pub usable-judged : (m : Map) → usable widthOf m ≡ true → judge widthOf m ≡ at 0 0
+  usable-judged Nothing e = refl
+  usable-judged Conflict e = never e refl
+  usable-judged (Held h places) e = sound-usable (h .n) (h .transport) _ (usable-sound (Held h places) e)
 
   module _ (m : Map) where
     -- the lists by index

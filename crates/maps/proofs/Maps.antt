@@ -3,7 +3,7 @@
 use Prim.Native.Nat.{ℕ}
 use mathlib.Core.Path.{_≡_, refl, sym, ap, _∙_, fun-ext}
 use mathlib.Core.Logic.{⊎-elim}
-use mathlib.Core.Bool.{Bool, true, false, _&&_, _||_, and-eq-true-iff}
+use mathlib.Core.Bool.{Bool, true, false, _||_, and-eq-true-iff}
 use mathlib.Core.Option.{Option, none, some, Option·none-ne-some, Option·some-injective}
 use mathlib.Core.List.{List, [], _∷_, List·Memᴰ, List·Memᴰ·head, List·Memᴰ·tail, List·Memᴰ·not-nil, List·Memᴰ·cases-cons}
 use borrow.Author.Tests.{eqb-true, eq-eqb}
@@ -12,7 +12,7 @@ use Rattle.message.specs.declared.Head.{Head}
 use Rattle.message.specs.declared.Place.{Place}
 use Rattle.message.specs.declared.Message.{Message}
 use Rattle.maps.specs.Maps.{sameHead, samePlace, contradicts, someOf, conflict, placeAt, Map, Nothing, Conflict, Held, mapOf, Contradiction, Says, IsMap, agrees, put, fits, learned, SameMembers}
-use Rattle.maps.proofs.Tests.{test, never, and-false-cases, eqb-same, head-eq, head-refl, place-eq, place-refl, clash-head, clash-place, agree, no-clash}
+use Rattle.maps.proofs.Tests.{test, never, and-false-cases, eqb-same, head-eq, place-eq, clash-head, clash-place, agree, no-clash}
 
 -- ---- sets with the same members have one map
 

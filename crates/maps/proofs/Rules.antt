@@ -2,9 +2,9 @@
 -- Assumes nothing.
 use Prim.Native.Nat.{ℕ, zero, suc, _≤_, _<_}
 use mathlib.Core.Path.{_≡_, refl, sym, ap, _∙_}
-use mathlib.Core.Bool.{Bool, true, false, cond}
+use mathlib.Core.Bool.{Bool}
 use mathlib.Core.List.{List, [], _∷_}
-use mathlib.Core.Logic.{_⊎_, inl, inr, ⊎-elim}
+use mathlib.Core.Logic.{_⊎_, ⊎-elim}
 use native.Mathlib.Omega.{arith}
 use borrow.Author.Tests.{eqb-true, eqb-false, eq-eqb, ne-eqb}
 use lib.Dec.{eqb}
@@ -64,6 +64,10 @@ first-named n (r ∷ rs) last u l =
       some = λ a b. let z = eqb-false (r .position) 0 f in (omega (arith, z), u .0 .2);
       none = λ h. absurd (⊎-elim (λ a. omega (arith, u .0)) (λ b. omega (arith, u .0)) h);
     }))
+
+-- a judgement that names no position
+pub nameless : (n k : ℕ) → k ≤ 8 → (2 ≤ k → k ≤ 7 → ⊥) → Named n (at k 0)
+nameless n k h out = record { number = h; some = λ l m. absurd (out l m); none = λ e. refl }
 
 -- ---- the lowest position
 

@@ -8,6 +8,7 @@ use native.Mathlib.Nat.{not-suc-le-zero, le-of-suc-le-suc}
 use native.Mathlib.Numerals.{add-one}
 use native.Mathlib.Omega.{arith}
 use lib.ListN.{length, getD}
+use borrow.Author.Count.{below-more}
 use borrow.Author.Tests.{leb-false, eqb-false}
 use lib.Dec.{leb}
 use Rattle.payload.specs.Bits.{any, lowest}
@@ -20,9 +21,15 @@ use Rattle.payload.proofs.Previous.{by-previous}
 abbrev pub None : (ℕ → Bool) → ℕ → Type 0
 None t i = (k : ℕ) → k < i → t k ≡ false
 
-pub hit : (t : ℕ → Bool) (n i : ℕ) → i < n → None t i → t i ≡ true → i + 1 ≡ lowest t n
-hit t n i h passed e = add-one i ∙ sym (lowest-at t n i h passed e)
+-- the test at i, as the code answered it, was passed: i + 1 is the lowest position
+pub hit : (t : ℕ → Bool) (n i : ℕ) (r : Bool) → i < n → None t i → r ≡ t i → r ≡ true → i + 1 ≡ lowest t n
+hit t n i r h passed e y = add-one i ∙ sym (lowest-at t n i h passed (sym e ∙ y))
 
+-- it was not: on to the next
+pub turn : (t : ℕ → Bool) (i : ℕ) (r : Bool) → None t i → r ≡ t i → r ≡ false → None t (i + 1)
+turn t i r passed e y = below-more (λ (k : ℕ). t k ≡ false) i passed (sym e ∙ y)
+
+-- there is none
 pub miss : (t : ℕ → Bool) (n i : ℕ) → n ≤ i → None t i → _≡_ {A = ℕ} 0 (lowest t n)
 miss t n i h passed = sym (lowest-none t n (λ k l. passed k (omega arith)))
 
@@ -42,12 +49,12 @@ not-above-at s zero h = absurd (not-suc-le-zero h)
 not-above-at s (suc i) h = ap (λ (k : ℕ). leb (s (suc i)) (s k)) (before i)
 
 -- where starts rise and every width is known, the first to share a bit with an earlier one shares a bit with the one before
-pub overlap-at : (s w : ℕ → ℕ) (n : ℕ) → lowest (unknown everyone w) n ≡ 0 → lowest (notAbove everyone s) n ≡ 0
-    → (i : ℕ) → 1 ≤ i → i < n → None (overlaps everyone s w) i → sharesBit (s (i - 1)) (w (i - 1)) (s i) (w i) ≡ overlaps everyone s w i
+pub overlap-at : (s w : ℕ → ℕ) (n i : ℕ) (r : Bool) → lowest (unknown everyone w) n ≡ 0 → lowest (notAbove everyone s) n ≡ 0
+    → 1 ≤ i → i < n → None (overlaps everyone s w) i → r ≡ sharesBit (s (i - 1)) (w (i - 1)) (s i) (w i) → r ≡ overlaps everyone s w i
 unfolding notAbove sharesEarlier
-overlap-at s w n u a zero h l passed = absurd (not-suc-le-zero h)
-overlap-at s w n u a (suc i) h l passed =
-    rw (before i) (sym (rw add-one at (by-previous s w n rises known i (rw add-one l) (λ j m. passed j (omega arith)))))
+overlap-at s w n zero r u a h l passed e = absurd (not-suc-le-zero h)
+overlap-at s w n (suc i) r u a h l passed e =
+    rw (before i) at e ∙ sym (rw add-one at (by-previous s w n rises known i (rw add-one l) (λ j m. passed j (omega arith))))
   where
     rises : (k : ℕ) → k + 1 < n → s k < s (k + 1)
     rises k m = rw (add-one k) (leb-false _ _ (lowest-each (notAbove everyone s) n a (suc k) (rw add-one at m)))

@@ -3,15 +3,15 @@ use Prim.Native.Nat.{ℕ, zero, suc, _≤_, _<_}
 use native.Mathlib.Omega.{arith}
 use native.Mathlib.Decide.{decLt, ℕ-discrete}
 use mathlib.Core.Path.{_≡_, refl, sym, ap, _∙_}
-use mathlib.Core.Bool.{Bool, true, false, cond}
+use mathlib.Core.Bool.{false, cond}
 use mathlib.Core.List.{List}
 use borrow.Author.Tests.{lt-ltb, le-ltb}
 use lib.ListN.{length, set}
 use Rattle.words.proofs.First.{first-none, first-same}
 use Rattle.words.proofs.Rows.{length-putAt}
 use Rattle.message.specs.declared.Key.{Key}
-use Rattle.maps.specs.Maps.{Map, Nothing}
-use Rattle.maps.proofs.Tests.{test, never}
+use Rattle.maps.specs.Maps.{Nothing}
+use Rattle.maps.proofs.Tests.{test}
 use Rattle.history.specs.History.{mostKeys}
 use Rattle.answers.specs.Answers.{outcome, plain}
 use Rattle.table.specs.Layout.{rowWords, tableWords, keyNumber, rowIs, rowOf, slotOf}
@@ -23,8 +23,8 @@ use Rattle.table.proofs.View.{map-at, map-none}
 use Rattle.table.proofs.Learning.{is-at}
 
 -- row i once the key is forgotten
-abbrev pub without : List ℕ → ℕ → List ℕ
-without r key = cond (rowIs r key) (set r 0 0) r
+abbrev pub rowWithout : List ℕ → ℕ → List ℕ
+rowWithout r key = cond (rowIs r key) (set r 0 0) r
 
 module _ (key : ℕ) where
   -- one row
@@ -35,7 +35,7 @@ module _ (key : ℕ) where
         (λ e. rw e (length-putAt rowWords t i (omega arith) (set (rowOf t i) 0 0) (freed-length (rowOf t i) (row-length t long i h)) ∙ long))
         (λ n. rw n long)
 
-    row-freed-own : rowOf (freeRow t key i) i ≡ without (rowOf t i) key
+    row-freed-own : rowOf (freeRow t key i) i ≡ rowWithout (rowOf t i) key
     row-freed-own =
         test (rowIs (rowOf t i) key)
         (λ e. rw e (put t long i h (set (rowOf t i) 0 0) (freed-length (rowOf t i) (row-length t long i h)) .at))
@@ -60,21 +60,21 @@ module _ (key : ℕ) where
     above (suc n) h i l r =
         row-freed-other (freeTo t key n) (freed-words n (omega arith)) n (omega arith) i r (omega arith) ∙ above n (omega arith) i (omega arith) r
 
-    below : (n : ℕ) → n ≤ mostKeys → (i : ℕ) → i < n → rowOf (freeTo t key n) i ≡ without (rowOf t i) key
+    below : (n : ℕ) → n ≤ mostKeys → (i : ℕ) → i < n → rowOf (freeTo t key n) i ≡ rowWithout (rowOf t i) key
     unfolding freeTo
     below zero h i l = absurd (omega arith)
     below (suc n) h i l = go (ℕ-discrete i n) (below n (omega arith) i)
       where
-        go : Dec (i ≡ n) → (i < n → rowOf (freeTo t key n) i ≡ without (rowOf t i) key) → rowOf (freeTo t key (suc n)) i ≡ without (rowOf t i) key
+        go : Dec (i ≡ n) → (i < n → rowOf (freeTo t key n) i ≡ rowWithout (rowOf t i) key) → rowOf (freeTo t key (suc n)) i ≡ rowWithout (rowOf t i) key
         go (yes e) ih =
             rw e
             (row-freed-own (freeTo t key n) (freed-words n (omega arith)) n (omega arith)
-            ∙ ap (λ (r : List ℕ). without r key) (above n (omega arith) n (omega arith) (omega arith)))
+            ∙ ap (λ (r : List ℕ). rowWithout r key) (above n (omega arith) n (omega arith) (omega arith)))
         go (no ne) ih =
             row-freed-other (freeTo t key n) (freed-words n (omega arith)) n (omega arith) i (omega arith) ne ∙ ih (omega arith)
 
     -- every row
-    pub freed-row : (i : ℕ) → i < mostKeys → rowOf (freeTo t key mostKeys) i ≡ without (rowOf t i) key
+    pub freed-row : (i : ℕ) → i < mostKeys → rowOf (freeTo t key mostKeys) i ≡ rowWithout (rowOf t i) key
     freed-row i h = below mostKeys (omega arith) i h
 
     -- no row holds the key, and of another key each row holds what it held
@@ -106,7 +106,7 @@ module _ (key : ℕ) where
 
 -- ---- what the call does
 
-module _ (t : List ℕ) (long : length t ≡ tableWords) (key : ℕ) where
+module _ (t : List ℕ) (key : ℕ) where
   pub held-before : slotOf t key < mostKeys → forgotten t key ≡ outcome (plain 0) (freeTo t key mostKeys)
   unfolding forgotten
   held-before h = rw (lt-ltb (slotOf t key) mostKeys h)
@@ -115,13 +115,20 @@ module _ (t : List ℕ) (long : length t ≡ tableWords) (key : ℕ) where
   unfolding forgotten
   not-held h = rw (le-ltb (slotOf t key) mostKeys h)
 
+pub forget-length : (t : List ℕ) → length t ≡ tableWords → (key : ℕ) → length (forgotten t key .memory) ≡ tableWords
+forget-length t long key = go (decLt (slotOf t key) mostKeys)
+  where
+    go : Dec (slotOf t key < mostKeys) → length (forgotten t key .memory) ≡ tableWords
+    go (yes h) = rw (held-before t key h) (freed-words key t long mostKeys (omega arith))
+    go (no h) = rw (not-held t key (omega arith)) long
+
 -- the key that is named is held no more
 pub forget-own : (t : List ℕ) → length t ≡ tableWords → (k : Key) → mapIn (forgotten t (keyNumber k) .memory) k ≡ Nothing
 forget-own t long k = go (decLt (slotOf t (keyNumber k)) mostKeys)
   where
     go : Dec (slotOf t (keyNumber k) < mostKeys) → mapIn (forgotten t (keyNumber k) .memory) k ≡ Nothing
-    go (yes h) = rw (held-before t long (keyNumber k) h) (map-none (freeTo t (keyNumber k) mostKeys) k (omega (arith, gone (keyNumber k) t long)))
-    go (no h) = rw (not-held t long (keyNumber k) (omega arith)) (map-none t k (omega arith))
+    go (yes h) = rw (held-before t (keyNumber k) h) (map-none (freeTo t (keyNumber k) mostKeys) k (omega (arith, gone (keyNumber k) t long)))
+    go (no h) = rw (not-held t (keyNumber k) (omega arith)) (map-none t k (omega arith))
 
 -- another key is held as it was
 pub forget-other : (t : List ℕ) → length t ≡ tableWords → (key : ℕ) (k : Key) → (key ≡ keyNumber k → ⊥) → mapIn (forgotten t key .memory) k ≡ mapIn t k
@@ -132,8 +139,8 @@ forget-other t long key k ne = go (decLt (slotOf t key) mostKeys) (decLt (slotOf
 
     go : Dec (slotOf t key < mostKeys) → Dec (slotOf t (keyNumber k) < mostKeys) → mapIn (forgotten t key .memory) k ≡ mapIn t k
     go (yes h) (yes l) =
-        rw (held-before t long key h, map-at t k l)
+        rw (held-before t key h, map-at t k l)
         (map-at (freeTo t key mostKeys) k (omega (arith, same)) ∙ rw same (ap rowMap (found-row key t long (keyNumber k) ne l)))
     go (yes h) (no l) =
-        rw (held-before t long key h, map-none t k (omega arith)) (map-none (freeTo t key mostKeys) k (omega (arith, same)))
-    go (no h) l = rw (not-held t long key (omega arith))
+        rw (held-before t key h, map-none t k (omega arith)) (map-none (freeTo t key mostKeys) k (omega (arith, same)))
+    go (no h) l = rw (not-held t key (omega arith))

@@ -3,23 +3,24 @@
 use Prim.Native.Nat.{ℕ, _≤_, _<_}
 use native.Mathlib.Omega.{arith}
 use native.Mathlib.Decide.{decLt}
-use mathlib.Core.Path.{_≡_, refl, sym, ap, _∙_}
-use mathlib.Core.Bool.{Bool, true, false, cond}
+use mathlib.Core.Path.{_≡_, sym, ap, _∙_}
+use mathlib.Core.Bool.{true, false, cond}
 use mathlib.Core.List.{List}
 use borrow.Author.Tests.{eqb-true, lt-ltb, le-ltb}
 use lib.Dec.{eqb}
 use lib.ListN.{length}
 use Rattle.words.specs.Slots.{Put}
 use Rattle.words.proofs.First.{first-holds}
+use Rattle.words.proofs.Rows.{length-putAt}
 use Rattle.words.proofs.Slots.{at-slot, below-slot, view-other, view-own}
 use Rattle.message.specs.declared.Key.{Key}
 use Rattle.message.specs.declared.Message.{Message}
-use Rattle.maps.specs.Maps.{Map, Nothing, learned}
+use Rattle.maps.specs.Maps.{learned}
 use Rattle.history.specs.History.{mostKeys}
 use Rattle.history.specs.Table.{isConflict}
-use Rattle.answers.specs.Answers.{Outcome, outcome, plain}
-use Rattle.table.specs.Layout.{rowWords, tableWords, keyNumber, stateWord, keyWord, rowIs, rowOf, putRow, slotOf, freeSlot}
-use Rattle.table.specs.View.{rowMap, mapIn}
+use Rattle.answers.specs.Answers.{outcome, plain}
+use Rattle.table.specs.Layout.{rowWords, tableWords, keyNumber, stateWord, rowIs, rowOf, putRow, slotOf, freeSlot}
+use Rattle.table.specs.View.{mapIn}
 use Rattle.table.specs.Learn.{learnRow, newRow, learnMessage}
 use Rattle.table.proofs.Words.{row-length, put}
 use Rattle.table.proofs.RowKeys.{is-held, other-key, free-is, learnRow-key, learnRow-length, learnRow-is, newRow-key, newRow-length, newRow-is}
@@ -74,6 +75,14 @@ module _ (t : List ℕ) (long : length t ≡ tableWords) (m : Message) where
 
   put-new : (f : freeSlot t < mostKeys) → Put mostKeys (rowOf t) (rowOf (putRow t (freeSlot t) (newRow m))) (freeSlot t) (newRow m)
   put-new f = put t long (freeSlot t) f (newRow m) (newRow-length m)
+
+  pub learn-length : length (learnMessage t m .memory) ≡ tableWords
+  learn-length = go (decLt s mostKeys) (decLt (freeSlot t) mostKeys)
+    where
+      go : Dec (s < mostKeys) → Dec (freeSlot t < mostKeys) → length (learnMessage t m .memory) ≡ tableWords
+      go (yes h) f = rw (into-row h) (length-putAt rowWords t s (omega (arith, long)) next (next-length h) ∙ long)
+      go (no h) (yes f) = rw (into-free (omega arith) f) (length-putAt rowWords t (freeSlot t) (omega (arith, long)) (newRow m) (newRow-length m) ∙ long)
+      go (no h) (no f) = rw (no-room (omega arith) (omega arith)) long
 
   -- the key of the message
   module _ (fit : InRow m) where

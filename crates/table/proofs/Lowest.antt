@@ -2,14 +2,14 @@
 use Prim.Native.Nat.{ℕ, zero, suc, _+_, _*_, _≤_, _<_}
 use native.Mathlib.Omega.{arith}
 use native.Mathlib.Decide.{decLt, ℕ-discrete}
-use mathlib.Core.Path.{_≡_, refl, sym, ap, _∙_}
+use mathlib.Core.Path.{_≡_, refl, sym, _∙_}
 use mathlib.Core.Bool.{Bool, true, false, cond, not, _&&_, and-eq-true-iff}
 use mathlib.Core.List.{List}
-use borrow.Author.Tests.{eqb-true, eqb-false, ne-eqb, not-true, leb-true, le-leb, ltb-true, ltb-false, lt-ltb}
+use borrow.Author.Tests.{eqb-false, ne-eqb, not-true, leb-true, le-leb, ltb-true, ltb-false, lt-ltb}
 use lib.Dec.{eqb, leb, ltb, lit<}
 use lib.ListN.{length, getD}
 use Rattle.words.specs.First.{first}
-use Rattle.words.proofs.First.{first-at, first-none, first-below, first-le}
+use Rattle.words.proofs.First.{first-at, first-none}
 use Rattle.maps.proofs.Tests.{test, never}
 use Rattle.history.specs.History.{mostKeys}
 use Rattle.table.specs.Layout.{rowWords, tableWords, keyNumbers, stateWord, keyWord, rowIs, rowOf, slotOf}

@@ -1,15 +1,14 @@
 -- Whose row it is, and what a step on a row keeps of that. Assumes nothing.
-use Prim.Native.Nat.{ℕ, _+_, _≤_, _<_}
+use Prim.Native.Nat.{ℕ, _+_, _<_}
 use native.Mathlib.Omega.{arith}
-use mathlib.Core.Path.{_≡_, refl, sym, ap, _∙_}
-use mathlib.Core.Bool.{Bool, true, false, cond, not, _&&_, and-eq-true-iff, and-false}
+use mathlib.Core.Path.{_≡_, refl, sym, _∙_}
+use mathlib.Core.Bool.{Bool, true, false, cond, not, and-eq-true-iff, and-false}
 use mathlib.Core.List.{List}
 use borrow.Author.Tests.{eqb-true, eqb-false, eq-eqb, ne-eqb, not-true}
 use lib.Dec.{eqb}
 use lib.ListN.{length, getD, set, replicate, length-set}
 use lib.Seq.{getD-set-same, getD-set-other}
 use Rattle.message.specs.declared.Message.{Message}
-use Rattle.maps.proofs.Tests.{test, never}
 use Rattle.answers.specs.Answers.{outcome, plain}
 use Rattle.table.specs.Layout.{rowWords, keyNumber, formNumber, cellNumber, stateWord, keyWord, rowIs}
 use Rattle.table.specs.Learn.{rowFits, learnRow, newRow}

@@ -2,25 +2,25 @@
 -- Assumes nothing.
 use Prim.Native.Nat.{ℕ, zero, suc, _+_, _-_, _*_, _/_, _%_, _^_, _≤_, _<_}
 use native.Mathlib.Omega.{arith}
-use native.Mathlib.Nat.{mod-lt}
 use mathlib.Core.Path.{_≡_, refl, sym, ap, _∙_, fun-ext}
-use mathlib.Core.Bool.{Bool, true, false, cond, not, _&&_, _||_, true≢false}
+use mathlib.Core.Bool.{Bool, true, false, cond, _||_}
 use mathlib.Core.Option.{Option, none, some, Option·some-injective}
 use mathlib.Core.List.{List}
 use borrow.Author.Tests.{eqb-true, eq-eqb, ne-eqb, eqb-false, le-leb, leb-true}
 use lib.Dec.{eqb, leb}
-use lib.ListN.{length, getD, set, replicate, length-set, length-replicate}
+use lib.ListN.{length, getD, set, replicate}
 use lib.Seq.{getD-set-same, getD-set-other}
 use Rattle.message.specs.declared.Head.{Head}
 use Rattle.message.specs.declared.Place.{Place}
 use Rattle.message.specs.declared.Message.{Message}
-use Rattle.maps.specs.Maps.{sameHead, samePlace, Map, Nothing, Conflict, Held, agrees, put, fits, learned}
+use Rattle.maps.specs.Maps.{sameHead, samePlace, Nothing, Conflict, Held, agrees, put, fits, learned}
 use Rattle.maps.proofs.Tests.{test, never, head-eq, head-refl, place-eq, place-refl}
-use Rattle.answers.specs.Answers.{Outcome, outcome, plain}
+use Rattle.answers.specs.Answers.{plain}
 use Rattle.history.specs.Table.{isConflict}
 use Rattle.table.specs.Layout.{positions, rowWords, bitOf, formNumber, cellNumber, keyNumber, stateWord, formWord, cellWord}
 use Rattle.table.specs.View.{headOf, placeOf, placeIn, rowMap}
 use Rattle.table.specs.Learn.{rowFits, learnRow, newRow}
+use Rattle.table.proofs.View.{row-conflict}
 
 -- ---- a form
 
@@ -101,16 +101,6 @@ same-cell c x h = test (eqb c 0) (λ t. rw t) (λ n. rw n (go (eqb-false c 0 n))
         same : c ≡ cellNumber x → old ≡ x
         same e = Option·some-injective _ _ (sym (place-back old (omega arith)) ∙ ap placeOf (cell-back c ne ∙ e) ∙ place-back x h)
 
--- ---- a row
-
-pub row-held : (r : List ℕ) → stateWord r ≡ 1 → rowMap r ≡ Held (headOf (formWord r)) (placeIn r)
-unfolding rowMap
-row-held r e = rw (eq-eqb (stateWord r) 1 e)
-
-pub row-conflict : (r : List ℕ) → (stateWord r ≡ 1 → ⊥) → rowMap r ≡ Conflict
-unfolding rowMap
-row-conflict r ne = rw (ne-eqb (stateWord r) 1 ne)
-
 -- ---- one message more
 
 -- the numbers of a message that has its place in a row
@@ -174,7 +164,7 @@ module _ (m : Message) (fit : InRow m) where
 
 -- ---- the first message
 
-zeros : (n i : ℕ) → _≡_ {A = ℕ} (getD (replicate n 0) i 0) 0
+pub zeros : (n i : ℕ) → _≡_ {A = ℕ} (getD (replicate n 0) i 0) 0
 zeros zero i = refl
 zeros (suc n) zero = refl
 zeros (suc n) (suc i) = zeros n i

@@ -1,6 +1,6 @@
 -- The words of a row are words of the table, and a word stored there is stored in the row. Assumes nothing.
-use Prim.Native.Nat.{ℕ, _+_, _*_, _≤_, _<_}
-use mathlib.Core.Path.{_≡_, refl, sym, ap, _∙_}
+use Prim.Native.Nat.{ℕ, _+_, _*_, _<_}
+use mathlib.Core.Path.{_≡_, ap}
 use mathlib.Core.Bool.{Bool, true, false, cond}
 use mathlib.Core.List.{List}
 use lib.Dec.{lit<}
@@ -10,7 +10,7 @@ use native.Mathlib.Omega.{arith}
 use Rattle.words.specs.Slots.{Put}
 use Rattle.words.proofs.Rows.{length-rowAt, rowAt-getD, rowAt-head, rowAt-putAt, rowAt-putAt-other, set-row-head}
 use Rattle.history.specs.History.{mostKeys}
-use Rattle.table.specs.Layout.{rowWords, tableWords, stateWord, keyWord, wordsAre, rowIs, rowOf, putRow}
+use Rattle.table.specs.Layout.{rowWords, tableWords, stateWord, wordsAre, rowIs, rowOf, putRow}
 use Rattle.table.specs.Learn.{emptyTable}
 use Rattle.table.specs.Forget.{freeRow}
 

@@ -2,8 +2,8 @@
 -- Of a row: word 0 its state (0 free, 1 held, any other: in conflict), word 1 the key's number, word 2 the form (n and the two flags), word 2 + p the
 -- cell of position p (0 nothing, else SPN and start).
 -- Assumes nothing.
-use Prim.Native.Nat.{ℕ, _+_, _*_, _/_, _%_}
-use mathlib.Core.Bool.{Bool, true, false, cond, not, _&&_}
+use Prim.Native.Nat.{ℕ, _+_, _*_, _/_, _%_, _^_, _≤_}
+use mathlib.Core.Bool.{Bool, cond, not, _&&_}
 use mathlib.Core.List.{List}
 use lib.Dec.{eqb}
 use lib.ListN.{getD}
@@ -13,6 +13,7 @@ use Rattle.words.specs.Slots.{slot}
 use Rattle.message.specs.declared.Key.{Key}
 use Rattle.message.specs.declared.Head.{Head}
 use Rattle.message.specs.declared.Place.{Place}
+use Rattle.message.specs.declared.Message.{Message}
 use Rattle.history.specs.History.{mostKeys}
 
 -- ---- sizes
@@ -20,6 +21,14 @@ use Rattle.history.specs.History.{mostKeys}
 -- the positions of a row: n is at most 64
 abbrev pub positions : ℕ
 positions = 64
+
+-- the greatest start that a well-formed message has
+abbrev pub lastStart : ℕ
+lastStart = 14279
+
+-- a message has its place in a row: every well-formed one has
+abbrev pub Storable : Message → Type 0
+Storable m = (m .position ≤ positions) × (m .place .start ≤ lastStart)
 
 -- the words of a row, and of the table
 abbrev pub rowWords : ℕ
@@ -35,23 +44,23 @@ keyOf source destination k = record { source = source; destination = destination
 
 -- a key as one number: rising keys are rising numbers, and all are below 2^24
 abbrev pub keyNumber : Key → ℕ
-keyNumber k = k .source * 65536 + k .destination * 256 + k .k
+keyNumber k = k .source * 2 ^ 16 + k .destination * 2 ^ 8 + k .k
 
 abbrev pub keyNumbers : ℕ
-keyNumbers = 16777216
+keyNumbers = 2 ^ 24
 
 -- the key that has a number
 abbrev pub keyNamed : ℕ → Key
-keyNamed x = keyOf (x / 65536) (x / 256 % 256) (x % 256)
+keyNamed x = keyOf (x / 2 ^ 16) (x / 2 ^ 8 % 2 ^ 8) (x % 2 ^ 8)
 
 abbrev pub bitOf : Bool → ℕ
 bitOf b = cond b 1 0
 
 abbrev pub formNumber : Head → ℕ
-formNumber h = h .n + bitOf (h .proprietary) * 256 + bitOf (h .transport) * 512
+formNumber h = h .n + bitOf (h .proprietary) * 2 ^ 8 + bitOf (h .transport) * 2 ^ 9
 
 abbrev pub cellNumber : Place → ℕ
-cellNumber p = 1 + p .spn + p .start * 4294967296
+cellNumber p = 1 + p .spn + p .start * 2 ^ 32
 
 -- ---- a row
 

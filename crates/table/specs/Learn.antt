@@ -1,6 +1,6 @@
 -- What learning makes of the words, and what it answers: on any words.
 -- Assumes nothing.
-use Prim.Native.Nat.{ℕ, _+_, _%_}
+use Prim.Native.Nat.{ℕ, _+_, _%_, _^_}
 use mathlib.Core.Bool.{Bool, cond, _&&_, _||_}
 use mathlib.Core.Option.{Option, none, some}
 use mathlib.Core.List.{List}
@@ -18,7 +18,7 @@ emptyTable = replicate tableWords 0
 
 -- the message contradicts nothing of the row: the same n and flags, and at its position nothing or the same SPN and start
 unfoldable pub rowFits : List ℕ → Message → Bool
-rowFits r m = eqb (formWord r % 1024) (formNumber (m .head)) && (eqb (cellWord r (m .position)) 0 || eqb (cellWord r (m .position)) (cellNumber (m .place)))
+rowFits r m = eqb (formWord r % 2 ^ 10) (formNumber (m .head)) && (eqb (cellWord r (m .position)) 0 || eqb (cellWord r (m .position)) (cellNumber (m .place)))
 
 -- one message more: "key in conflict, or put there by this message" is 10, and of the words only the state changes
 unfoldable pub learnRow : List ℕ → Message → Outcome

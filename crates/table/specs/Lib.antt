@@ -3,3 +3,4 @@ pub mod View
 pub mod Learn
 pub mod Forget
 pub mod Next
+pub mod Calls

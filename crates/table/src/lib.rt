@@ -7,7 +7,7 @@ ghost use lib.Dec.{eqb, leb, ltb};
 ghost use lib.ListN.{length, replicate};
 ghost use Rattle.answers.specs.Answers.{inNumbers, plain, outcome};
 ghost use Rattle.history.specs.History.{mostKeys};
-ghost use Rattle.table.specs.Layout.{tableWords, rowWords, positions, keyOf, keyNumber, bitOf, formNumber, cellNumber, wordsAre, slotOf, freeSlot};
+ghost use Rattle.table.specs.Layout.{tableWords, rowWords, lastStart, Storable, keyOf, keyNumber, bitOf, formNumber, cellNumber, wordsAre, slotOf, freeSlot};
 ghost use Rattle.table.specs.Learn.{rowFits, learnRow, newRow, learnMessage, learnt, emptyTable};
 ghost use Rattle.table.specs.Forget.{freeTo, forgotten};
 ghost use Rattle.table.specs.Next.{keyFound, lowestFrom, keyAt, firstKey, nextKey};
@@ -18,12 +18,28 @@ use message::Key;
 use message::Message;
 use message::Place;
 
+// The table: 16 rows of 67 words.
 pub const WORDS: usize = 1072;
 
 const ROWS: usize = 16;
 
 const ROW_WORDS: usize = 67;
 
+// The words of a row: state, key, form, and at FORM + p the cell of position p.
+const STATE: usize = 0;
+
+const KEY: usize = 1;
+
+const FORM: usize = 2;
+
+// The states: any other than these three is in conflict too.
+const FREE: u64 = 0;
+
+const HELD: u64 = 1;
+
+const IN_CONFLICT: u64 = 2;
+
+// Every key's number is below this.
 const KEY_NUMBERS: u64 = 16777216;
 
 // The next held key, or none.
@@ -56,7 +72,7 @@ fn form_number(h: Head) -> u64
 
 // SPN and start as one number, never 0.
 fn cell_number(p: Place) -> u64
-    requires { ⌜ p .start ≤ 14279 ⌝ }
+    requires { ⌜ p .start ≤ lastStart ⌝ }
     ensures { λ r. ⌜ r ≡ cellNumber p ⌝ }
 {
     1 + p.spn as u64 + p.start as u64 * 4294967296
@@ -68,7 +84,7 @@ fn cell_number(p: Place) -> u64
 fn words_are(state: u64, word: u64, key: u64) -> bool
     ensures { λ r. ⌜ r ≡ wordsAre state word key ⌝ }
 {
-    (state != 0) & (word == key)
+    (state != FREE) & (word == key)
 }
 
 // The state of such a row once the key is forgotten: another key's row keeps its own.
@@ -76,7 +92,7 @@ fn state_without(state: u64, word: u64, key: u64) -> u64
     ensures { λ r. ⌜ r ≡ cond (wordsAre state word key) 0 state ⌝ }
 {
     if words_are(state, word, key) {
-        0
+        FREE
     } else {
         state
     }
@@ -84,31 +100,31 @@ fn state_without(state: u64, word: u64, key: u64) -> u64
 
 // Whether the message contradicts nothing of the row.
 fn row_fits(row: &[u64], m: Message) -> bool
-    requires { ⌜ (length (now row) ≡ rowWords) × (m .position ≤ positions) × (m .place .start ≤ 14279) ⌝ }
+    requires { ⌜ (length (now row) ≡ rowWords) × Storable m ⌝ }
     ensures { λ r. ⌜ r ≡ rowFits (now (row .entry)) m ⌝ }
 {
     let form = form_number(m.head);
     let cell = cell_number(m.place);
     let p = m.position as usize;
-    let old = row[2 + p];
-    (row[2] % 1024 == form) & ((old == 0) | (old == cell))
+    let old = row[FORM + p];
+    (row[FORM] % 1024 == form) & ((old == 0) | (old == cell))
 }
 
 // One message more for the key of this row: a contradiction changes the state, and no other word.
 fn learn_row(row: &mut [u64], m: Message) -> u8
-    requires { ⌜ (length (now row) ≡ rowWords) × (m .position ≤ positions) × (m .place .start ≤ 14279) ⌝ }
+    requires { ⌜ (length (now row) ≡ rowWords) × Storable m ⌝ }
     ensures { λ r. ⌜ outcome (plain r) (now (row .exit)) ≡ learnRow (now (row .entry)) m ⌝ }
 {
-    if row[0] != 1 {
+    if row[STATE] != HELD {
         return 10;
     }
     if row_fits(row, m) {
         let p = m.position as usize;
         let cell = cell_number(m.place);
-        row[2 + p] = cell;
+        row[FORM + p] = cell;
         return 0;
     }
-    row[0] = 2;
+    row[STATE] = IN_CONFLICT;
     10
 }
 
@@ -125,7 +141,7 @@ fn clear(row: &mut [u64])
 
 // The row of a key that has this one message.
 fn new_row(row: &mut [u64], m: Message)
-    requires { ⌜ (length (now row) ≡ rowWords) × (m .position ≤ positions) × (m .place .start ≤ 14279) ⌝ }
+    requires { ⌜ (length (now row) ≡ rowWords) × Storable m ⌝ }
     ensures { λ r. ⌜ now (row .exit) ≡ newRow m ⌝ }
 {
     let key = m.key;
@@ -134,10 +150,10 @@ fn new_row(row: &mut [u64], m: Message)
     let cell = cell_number(m.place);
     let p = m.position as usize;
     clear(row);
-    row[0] = 1;
-    row[1] = number;
-    row[2] = form;
-    row[2 + p] = cell;
+    row[STATE] = HELD;
+    row[KEY] = number;
+    row[FORM] = form;
+    row[FORM + p] = cell;
 }
 
 // ---- the table
@@ -150,7 +166,7 @@ fn slot_in(t: &[u64], key: u64) -> usize
     let mut i = 0;
     while i < ROWS {
         let a = i * ROW_WORDS;
-        if words_are(t[a], t[a + 1], key) {
+        if words_are(t[a], t[a + KEY], key) {
             return i;
         }
         i += 1;
@@ -165,7 +181,7 @@ fn free_slot(t: &[u64]) -> usize
 {
     let mut i = 0;
     while i < ROWS {
-        if t[i * ROW_WORDS] == 0 {
+        if t[i * ROW_WORDS] == FREE {
             return i;
         }
         i += 1;
@@ -182,7 +198,7 @@ pub fn slot_of(t: &[u64; WORDS], key: u64) -> usize
 
 // One well-formed message: into its key's row, or into the lowest free one, or 9. One row is touched.
 fn learn_message(t: &mut [u64], m: Message) -> u8
-    requires { ⌜ (length (now t) ≡ tableWords) × (m .position ≤ positions) × (m .place .start ≤ 14279) ⌝ }
+    requires { ⌜ (length (now t) ≡ tableWords) × Storable m ⌝ }
     ensures { λ r. ⌜ outcome (plain r) (now (t .exit)) ≡ learnMessage (now (t .entry)) m ⌝ }
 {
     let key = m.key;
@@ -227,7 +243,7 @@ fn free_rows(t: &mut [u64], key: u64)
     let mut i = 0;
     while i < ROWS {
         let a = i * ROW_WORDS;
-        t[a] = state_without(t[a], t[a + 1], key);
+        t[a] = state_without(t[a], t[a + KEY], key);
         i += 1;
     }
 }
@@ -256,7 +272,7 @@ pub fn forget(t: &mut [u64; WORDS], source: u8, destination: u8, k: u8) -> Answe
 fn nearer(state: u64, word: u64, from: u64, best: u64) -> u64
     ensures { λ r. ⌜ r ≡ cond (not (eqb state 0) && leb from word && ltb word best) word best ⌝ }
 {
-    if (state != 0) & (from <= word) & (word < best) {
+    if (state != FREE) & (from <= word) & (word < best) {
         word
     } else {
         best
@@ -272,7 +288,7 @@ fn lowest_from(t: &[u64], from: u64) -> u64
     let mut i = 0;
     while i < ROWS {
         let a = i * ROW_WORDS;
-        best = nearer(t[a], t[a + 1], from, best);
+        best = nearer(t[a], t[a + KEY], from, best);
         i += 1;
     }
     best

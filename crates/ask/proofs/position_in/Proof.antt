@@ -1,5 +1,7 @@
 -- `position_in`: no position passed has the SPN, so the one that stops the search is the lowest. Assumes nothing.
 use Prim.Native.Nat.{ℕ, _-_}
+use mathlib.Core.Path.{refl, sym}
+use mathlib.Core.Bool.{true}
 use denote.Ref.{now}
 use borrow.Author.Count.{below-none, below-more}
 use borrow.Author.Needs.{needs}
@@ -19,7 +21,7 @@ abbrev μ-loop : tie.MeasureT-loop
 returns : tie.Need-returns Inv-loop μ-loop
 returns c =
     let l = c .before .before .before in
-    hit _ _ _ (search needs) (l .loop .inv) (eq-eqb _ _ (c .if1 .taken))
+    hit _ _ _ true (search needs) (l .loop .inv) (sym (eq-eqb _ _ (c .if1 .taken))) refl
 
 loop-again : tie.Need-loop-again Inv-loop μ-loop
 loop-again c =

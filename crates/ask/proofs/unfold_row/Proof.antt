@@ -1,16 +1,16 @@
 -- `unfold_row`: after i turns each list has the first i numbers. Assumes nothing.
-use Prim.Native.Nat.{ℕ, suc, _-_, _≤_}
+use Prim.Native.Nat.{ℕ, suc, _+_, _-_, _≤_}
 use mathlib.Core.Path.{_≡_, refl}
 use mathlib.Core.List.{_++_}
 use native.Mathlib.Omega.{arith}
 use denote.Ref.{now}
 use borrow.Author.Needs.{needs}
-use lib.ListN.{length, drop}
+use lib.ListN.{length, getD, drop}
 use Rattle.payload.specs.Bits.{tabulate}
 use Rattle.maps.specs.Judge.{spnIn, startIn, spnAt, startAt}
 use Rattle.table.specs.Layout.{positions}
 use Rattle.ask.specs.Unfolded.{paramsIn, markedWidth, spnsIn, startsIn, widthsIn}
-use Rattle.ask.proofs.Unfolded.{turn, last}
+use Rattle.ask.proofs.Unfolded.{turn, last, width-of-cell}
 use Rattle.ask.proofs.unfold_row.Statement.{statement}
 use Rattle.ask.proofs.unfold_row.Tie as tie
 
@@ -32,14 +32,16 @@ loop-holds c = (search needs, search needs, search needs, search needs, refl, re
 loop-again : tie.Need-loop-again Inv-loop μ-loop
 loop-again c =
     let l = c .before .before .before .before .before in
-    let a = l .before .before .before .before .before .args in (
+    let a = l .before .before .before .before .before .args in
+    let spn = c .before .before .spn-of .ensures in (
       search needs,
       search needs,
       search needs,
       search needs,
-      turn spnIn (now (a .row)) (now (a .spns)) _ (l .loop .i) _ (search needs) (omega arith) (l .loop .inv .4) (c .before .before .spn-of .ensures),
+      turn spnIn (now (a .row)) (now (a .spns)) _ (l .loop .i) _ (search needs) (omega arith) (l .loop .inv .4) spn,
       turn startIn (now (a .row)) (now (a .starts)) _ (l .loop .i) _ (search needs) (omega arith) (l .loop .inv .5) (c .before .start-of .ensures),
-      turn markedWidth (now (a .row)) (now (a .widths)) _ (l .loop .i) _ (search needs) (omega arith) (l .loop .inv .6) (c .width-in .ensures),
+      turn markedWidth (now (a .row)) (now (a .widths)) _ (l .loop .i) _ (search needs) (omega arith) (l .loop .inv .6)
+          (width-of-cell (getD (now (a .row)) (3 + l .loop .i) 0) _ _ spn (c .width-in .ensures)),
     )
 
 returns : tie.Need-returns Inv-loop μ-loop
@@ -55,6 +57,6 @@ returns c =
 pub unfold-row-spec : {M : Type 1} → statement M
 unfold-row-spec =
     tie.close
-    (tie.spec Inv-loop μ-loop loop-holds (λ c. search needs) (λ c. search needs) (λ c. search needs) (λ c κs. search needs)
-    (λ c. search needs) (λ c. search needs) (λ c κs. search needs) (λ c. search needs) (λ c. search needs) (λ c κs. search needs)
-    (λ c. search needs) (λ c. search needs) (λ c. search needs) (λ c. search needs) loop-again (λ c. search needs) (λ c. search needs) (λ c. search needs) returns)
+    (tie.spec Inv-loop μ-loop loop-holds (λ c. search needs) (λ c. search needs) (λ c. search needs) (λ c κs. search needs) (λ c κs. search needs)
+    (λ c. search needs) (λ c. search needs) (λ c. search needs) (λ c. search needs) (λ c κs. search needs) (λ c. search needs) (λ c. search needs)
+    (λ c. search needs) (λ c. search needs) loop-again (λ c. search needs) (λ c. search needs) (λ c. search needs) returns)

@@ -1,6 +1,6 @@
 use mathlib.Core.Path.{sym, ap, _∙_}
 use Rattle.message.specs.Message.{heardOf}
-use Rattle.table.proofs.Frames.{refused, taken, position-fits, start-fits}
+use Rattle.table.proofs.Frames.{refused, taken, storable}
 use borrow.Author.Needs.{needs}
 use Rattle.table.proofs.learn.Statement.{statement}
 use Rattle.table.proofs.learn.Tie as tie
@@ -9,7 +9,7 @@ learn-message-requires : tie.Need-learn-message-requires
 learn-message-requires c κs =
     let a = c .before .before .before .before .before .args in
     let e = ap heardOf (sym (c .before .before .m .given .1)) ∙ c .before .before .before .before .decode .ensures in
-    (search needs, position-fits (a .id) (a .len) (a .d .now) _ e, start-fits (a .id) (a .len) (a .d .now) _ e)
+    (search needs, storable (a .id) (a .len) (a .d .now) _ e)
 
 returns : tie.Need-returns
 returns c =

@@ -1,0 +1,301 @@
+-- What the answers of pack, read and find tell, on any map and with any dictionary: when each is refused, that packing and reading undo each
+-- other, and where the bits stand. Assumes nothing.
+use Prim.Native.Nat.{ℕ, suc, _*_, _/_, _%_, _≤_, _<_}
+use mathlib.Core.Path.{_≡_, refl, sym, ap, _∙_}
+use mathlib.Core.Bool.{Bool, true, false, cond, not, _||_}
+use mathlib.Core.Option.{Option}
+use mathlib.Core.List.{List, _++_}
+use native.Mathlib.Decide.{decLt, ℕ-discrete}
+use native.Mathlib.Omega.{arith}
+use borrow.Author.Tests.{eq-eqb, ne-eqb, lt-ltb, le-ltb, eqb-true, eqb-false, ltb-true, ltb-false, not-false}
+use lib.Dec.{eqb, ltb}
+use lib.ListN.{length, getD, take, drop, length-append, List·getD-append}
+use lib.Seq.{take-at, drop-at}
+use Rattle.answers.specs.Answers.{Judged, Said, plain, detailed, done, unusable, Outcome, outcome}
+use Rattle.answers.proofs.Cases.{same-answer}
+use Rattle.payload.specs.Bits.{bitOf, bitAt}
+use Rattle.payload.specs.Place.{placeIn, assigned, sizeOf}
+use Rattle.payload.specs.Payload.{packed, readNumber, readAll, filled, Apart, Fit}
+use Rattle.payload.specs.Calls.{tooWideIn}
+use Rattle.payload.proofs.Below.{neither, lowest-at, lowest-none}
+use Rattle.payload.proofs.Bits.{from-lt, bitAt-lt, get-tabulate}
+use Rattle.payload.proofs.Placed.{none-wide, fit-none-wide}
+use Rattle.payload.proofs.Laws.{packed-at, packed-other, packed-length, read-packed, packed-read, read-length}
+use Rattle.maps.specs.Maps.{Map}
+use Rattle.maps.specs.Judge.{Param, spnAt, judge, usable, countOf, paramsOf, startsOf, widthsOf, lengthOf}
+use Rattle.maps.proofs.Tests.{test, never}
+use Rattle.maps.proofs.Judged.{lists-length, usable-sound, usable-apart, usable-length}
+use Rattle.ask.specs.declared.Found.{Found}
+use Rattle.ask.specs.Ask.{isHeld, ifUsable, packedBy, readBy, Finding, foundIn, notFound, foundAt, foundBy, positionOf}
+use Rattle.ask.proofs.Calls.{usable-is, held-usable, if-good, if-bad}
+
+-- numbers that were read need no more than their widths
+read-fit : (ss ws payload : List ℕ) → Fit ss ws (readAll ss ws payload)
+unfolding readAll readNumber
+read-fit ss ws payload = record {
+  count = read-length ss ws payload;
+  each = λ i l. rw (get-tabulate _ (length ss) i l) (from-lt _ (λ j. bitAt-lt payload _) (getD ws i 0));
+}
+
+abbrev answerNumber : Outcome → ℕ
+answerNumber o = o .answer .number
+
+-- a payload bit of the first bytes of a buffer
+bit-first : (xs ys : List ℕ) (p : ℕ) → p < 8 * length xs → bitAt (xs ++ ys) p ≡ bitAt xs p
+unfolding bitAt
+bit-first xs ys p l = ap (λ (x : ℕ). bitOf x (p % 8)) (List·getD-append xs ys 0 (p / 8) (omega arith))
+
+module _ (widthOf : ℕ → ℕ) (m : Map) where
+  abbrev ss : List ℕ
+  ss = startsOf widthOf m
+
+  abbrev ws : List ℕ
+  ws = widthsOf widthOf m
+
+  -- ---- 12
+
+  -- a map that is held, with a judgement other than 0
+  abbrev pub Unusable : Type 0
+  Unusable = (isHeld m ≡ true) × (judge widthOf m .number ≡ 0 → ⊥)
+
+  -- 12 comes from the test of the judgement alone
+  only-12 : {A : Type 0} (number : A → ℕ) (refused : Said → A) (rest : A) → ((a : Said) → number (refused a) ≡ a .number) → (number rest ≡ 12 → ⊥)
+      → number (ifUsable widthOf m refused rest) ≡ 12 → Unusable
+  only-12 number refused rest same other e =
+      test (isHeld m)
+      (λ h. test (usable widthOf m) (λ u. absurd (other (sym (ap number (if-good widthOf m refused rest u)) ∙ e)))
+      (λ f. (h, λ z. never (held-usable widthOf m h z) f)))
+      (λ f. let z : number (refused (plain 11)) ≡ 12 = rw f at e in absurd (omega (arith, same (plain 11), z)))
+
+  -- 0 is given to a usable map alone
+  only-0 : {A : Type 0} (number : A → ℕ) (refused : Said → A) (rest : A) → ((a : Said) → number (refused a) ≡ a .number)
+      → number (ifUsable widthOf m refused rest) ≡ 0 → (usable widthOf m ≡ true) × (number rest ≡ 0)
+  only-0 number refused rest same e =
+      test (isHeld m)
+      (λ h. test (usable widthOf m) (λ u. (u, sym (ap number (if-good widthOf m refused rest u)) ∙ e))
+      (λ f. let z : number (refused (unusable (judge widthOf m))) ≡ 0 = rw (h, f) at e in absurd (omega (arith, same (unusable (judge widthOf m)), z))))
+      (λ f. let z : number (refused (plain 11)) ≡ 0 = rw f at e in absurd (omega (arith, same (plain 11), z)))
+
+  -- pack answers 12 exactly where the map is held and its judgement isn't 0
+  pub pack-12 : (numbers out : List ℕ) → (packedBy widthOf m numbers out .answer .number ≡ 12 → Unusable)
+      × (Unusable → packedBy widthOf m numbers out ≡ outcome (unusable (judge widthOf m)) out)
+  unfolding packedBy
+  pack-12 numbers out = (
+    only-12 answerNumber (λ a. outcome a out) _ (λ a. refl)
+        (other (not (eqb (length numbers) (countOf m)) || ltb (length out) (lengthOf widthOf m)) (ltb 0 (tooWideIn ws numbers)) _ _ _),
+    λ u. if-bad widthOf m (λ a. outcome a out) _ (u .0) (u .1),
+  )
+    where
+      other : (a b : Bool) (d l : ℕ) (p : List ℕ) → cond a (outcome (plain 13) out) (cond b (outcome (detailed 14 d) out) (outcome (done l) p)) .answer .number ≡ 12 → ⊥
+      other true b d l p e = omega arith
+      other false true d l p e = omega arith
+      other false false d l p e = omega arith
+
+  -- and so does read
+  pub read-12 : (payload room : List ℕ) → (readBy widthOf m payload room .answer .number ≡ 12 → Unusable)
+      × (Unusable → readBy widthOf m payload room ≡ outcome (unusable (judge widthOf m)) room)
+  unfolding readBy
+  read-12 payload room = (
+    only-12 answerNumber (λ a. outcome a room) _ (λ a. refl) (other (not (eqb (length payload) (lengthOf widthOf m)) || ltb (length room) (countOf m)) _ _),
+    λ u. if-bad widthOf m (λ a. outcome a room) _ (u .0) (u .1),
+  )
+    where
+      other : (a : Bool) (l : ℕ) (p : List ℕ) → cond a (outcome (plain 13) room) (outcome (done l) p) .answer .number ≡ 12 → ⊥
+      other true l p e = omega arith
+      other false l p e = omega arith
+
+  -- and find
+  pub find-12 : (spn : ℕ) → (foundBy widthOf m spn .answer .number ≡ 12 → Unusable) × (Unusable → foundBy widthOf m spn ≡ notFound (unusable (judge widthOf m)))
+  unfolding foundBy
+  find-12 spn = (
+    only-12 (λ (f : Finding). f .answer .number) notFound _ (λ a. refl) (other (eqb (positionOf widthOf m spn) 0) (positionOf widthOf m spn) (paramsOf widthOf m (positionOf widthOf m spn))),
+    λ u. if-bad widthOf m notFound _ (u .0) (u .1),
+  )
+    where
+      other : (a : Bool) (p : ℕ) (x : Option Param) → cond a (notFound (plain 18)) (foundAt p x) .answer .number ≡ 12 → ⊥
+      other true p x e = omega arith
+      other false p x e = omega arith
+
+  -- ---- answer 0
+
+  -- packing is done exactly where the map is usable, the numbers are n and fit, and the buffer has L bytes
+  pub pack-done : (numbers out : List ℕ) → usable widthOf m ≡ true → Fit ss ws numbers → lengthOf widthOf m ≤ length out
+      → packedBy widthOf m numbers out ≡ outcome (done (lengthOf widthOf m)) (packed ss ws numbers ++ drop (lengthOf widthOf m) out)
+  unfolding packedBy
+  pack-done numbers out u f l =
+      if-good widthOf m (λ a. outcome a out) _ u
+      ∙ rw (eq-eqb (length numbers) (countOf m) (f .count ∙ lists-length widthOf m .1), le-ltb (length out) (lengthOf widthOf m) l, fit-none-wide ss ws numbers f)
+
+  pub done-packs : (numbers out : List ℕ) → packedBy widthOf m numbers out .answer .number ≡ 0
+      → (usable widthOf m ≡ true) × Fit ss ws numbers × (lengthOf widthOf m ≤ length out)
+  unfolding packedBy
+  done-packs numbers out e =
+      let (u, z) = only-0 answerNumber (λ a. outcome a out) _ (λ a. refl) e in
+      let (a, b) = passed (not (eqb (length numbers) (countOf m)) || ltb (length out) (lengthOf widthOf m)) (ltb 0 (tooWideIn ws numbers)) _ _ _ z in
+      let (c, d) = neither (not (eqb (length numbers) (countOf m))) (ltb (length out) (lengthOf widthOf m)) a in
+      let n = eqb-true (length numbers) (countOf m) (not-false _ c) in
+      (u, none-wide ss ws numbers (n ∙ sym (lists-length widthOf m .1)) (omega (arith, ltb-false 0 (tooWideIn ws numbers) b)), ltb-false _ _ d)
+    where
+      passed : (a b : Bool) (d l : ℕ) (p : List ℕ) → cond a (outcome (plain 13) out) (cond b (outcome (detailed 14 d) out) (outcome (done l) p)) .answer .number ≡ 0
+          → (a ≡ false) × (b ≡ false)
+      passed true b d l p e = absurd (omega arith)
+      passed false true d l p e = absurd (omega arith)
+      passed false false d l p e = (refl, refl)
+
+  -- reading is done exactly where the map is usable, the payload has L bytes, and there is room for n numbers
+  pub read-done : (payload room : List ℕ) → usable widthOf m ≡ true → length payload ≡ lengthOf widthOf m → countOf m ≤ length room
+      → readBy widthOf m payload room ≡ outcome (done (countOf m)) (readAll ss ws payload ++ drop (countOf m) room)
+  unfolding readBy
+  read-done payload room u e l =
+      if-good widthOf m (λ a. outcome a room) _ u ∙ rw (eq-eqb (length payload) (lengthOf widthOf m) e, le-ltb (length room) (countOf m) l)
+
+  pub done-reads : (payload room : List ℕ) → readBy widthOf m payload room .answer .number ≡ 0
+      → (usable widthOf m ≡ true) × (length payload ≡ lengthOf widthOf m) × (countOf m ≤ length room)
+  unfolding readBy
+  done-reads payload room e =
+      let (u, z) = only-0 answerNumber (λ a. outcome a room) _ (λ a. refl) e in
+      let a = passed (not (eqb (length payload) (lengthOf widthOf m)) || ltb (length room) (countOf m)) _ _ z in
+      let (c, d) = neither (not (eqb (length payload) (lengthOf widthOf m))) (ltb (length room) (countOf m)) a in
+      (u, eqb-true (length payload) (lengthOf widthOf m) (not-false _ c), ltb-false _ _ d)
+    where
+      passed : (a : Bool) (l : ℕ) (p : List ℕ) → cond a (outcome (plain 13) room) (outcome (done l) p) .answer .number ≡ 0 → a ≡ false
+      passed true l p e = absurd (omega arith)
+      passed false l p e = refl
+
+  -- "None" of a refusal: the buffer and the room hold what they held
+  pub pack-refused : (numbers out : List ℕ) → (packedBy widthOf m numbers out .answer .number ≡ 0 → ⊥) → packedBy widthOf m numbers out .memory ≡ out
+  unfolding packedBy
+  pack-refused numbers out n =
+      go (isHeld m) (usable widthOf m) (not (eqb (length numbers) (countOf m)) || ltb (length out) (lengthOf widthOf m)) (ltb 0 (tooWideIn ws numbers)) (judge widthOf m) _ _ _ n
+    where
+      go : (h u a b : Bool) (j : Judged) (d l : ℕ) (p : List ℕ)
+          → (cond (not h) (outcome (plain 11) out) (cond (not u) (outcome (unusable j) out) (cond a (outcome (plain 13) out) (cond b (outcome (detailed 14 d) out) (outcome (done l) p)))) .answer .number ≡ 0 → ⊥)
+          → cond (not h) (outcome (plain 11) out) (cond (not u) (outcome (unusable j) out) (cond a (outcome (plain 13) out) (cond b (outcome (detailed 14 d) out) (outcome (done l) p)))) .memory ≡ out
+      go false u a b j d l p n = refl
+      go true false a b j d l p n = refl
+      go true true true b j d l p n = refl
+      go true true false true j d l p n = refl
+      go true true false false j d l p n = absurd (n refl)
+
+  pub read-refused : (payload room : List ℕ) → (readBy widthOf m payload room .answer .number ≡ 0 → ⊥) → readBy widthOf m payload room .memory ≡ room
+  unfolding readBy
+  read-refused payload room n =
+      go (isHeld m) (usable widthOf m) (not (eqb (length payload) (lengthOf widthOf m)) || ltb (length room) (countOf m)) (judge widthOf m) _ _ n
+    where
+      go : (h u a : Bool) (j : Judged) (l : ℕ) (p : List ℕ)
+          → (cond (not h) (outcome (plain 11) room) (cond (not u) (outcome (unusable j) room) (cond a (outcome (plain 13) room) (outcome (done l) p))) .answer .number ≡ 0 → ⊥)
+          → cond (not h) (outcome (plain 11) room) (cond (not u) (outcome (unusable j) room) (cond a (outcome (plain 13) room) (outcome (done l) p))) .memory ≡ room
+      go false u a j l p n = refl
+      go true false a j l p n = refl
+      go true true true j l p n = refl
+      go true true false j l p n = absurd (n refl)
+
+  -- ---- demand 2, on the calls: after packing answered 0
+  module _ (numbers out : List ℕ) (e : packedBy widthOf m numbers out .answer .number ≡ 0) where
+    its : (usable widthOf m ≡ true) × Fit ss ws numbers × (lengthOf widthOf m ≤ length out)
+    its = done-packs numbers out e
+
+    apart : Apart ss ws
+    apart = usable-apart widthOf m (its .0)
+
+    gives : packedBy widthOf m numbers out ≡ outcome (done (lengthOf widthOf m)) (packed ss ws numbers ++ drop (lengthOf widthOf m) out)
+    gives = pack-done numbers out (its .0) (its .1) (its .2)
+
+    -- its detail is L, from 8 to 1,785
+    pub pack-size : (packedBy widthOf m numbers out .answer ≡ done (lengthOf widthOf m)) × (8 ≤ lengthOf widthOf m) × (lengthOf widthOf m ≤ 1785)
+    pack-size = let (a, b) = usable-length widthOf m (its .0) in (ap (λ (o : Outcome). o .answer) gives, a, b)
+
+    -- bit k of the number at index i stands at its place
+    pub pack-bit : (i k : ℕ) → i < countOf m → k < getD ws i 0 → bitAt (packedBy widthOf m numbers out .memory) (placeIn ss ws i k) ≡ bitOf (getD numbers i 0) k
+    pack-bit i k l w =
+        let h : i < length ss = rw (lists-length widthOf m .1) l in
+        ap (λ (o : Outcome). bitAt (o .memory) (placeIn ss ws i k)) gives
+        ∙ bit-first (packed ss ws numbers) _ _ (rw (packed-length ss ws numbers) (apart .inside i k h w))
+        ∙ packed-at ss ws numbers apart i k h w
+
+    -- all other bits of the L bytes are 1
+    pub pack-other : (p : ℕ) → p < 8 * lengthOf widthOf m → assigned ss ws p ≡ false → bitAt (packedBy widthOf m numbers out .memory) p ≡ 1
+    pack-other p l h =
+        ap (λ (o : Outcome). bitAt (o .memory) p) gives
+        ∙ bit-first (packed ss ws numbers) _ p (rw (packed-length ss ws numbers) l) ∙ packed-other ss ws numbers p l h
+
+    -- bytes past L keep what they held
+    pub pack-past : drop (lengthOf widthOf m) (packedBy widthOf m numbers out .memory) ≡ drop (lengthOf widthOf m) out
+    pack-past = ap (λ (o : Outcome). drop (lengthOf widthOf m) (o .memory)) gives ∙ drop-at (packed ss ws numbers) _ (lengthOf widthOf m) (packed-length ss ws numbers)
+
+    -- reading the L bytes gives the numbers
+    pub read-back : (room : List ℕ) → countOf m ≤ length room
+        → readBy widthOf m (take (lengthOf widthOf m) (packedBy widthOf m numbers out .memory)) room ≡ outcome (done (countOf m)) (numbers ++ drop (countOf m) room)
+    read-back room l =
+        ap (λ (o : Outcome). readBy widthOf m (take (lengthOf widthOf m) (o .memory)) room) gives
+        ∙ ap (λ (x : List ℕ). readBy widthOf m x room) (take-at (packed ss ws numbers) _ (lengthOf widthOf m) (packed-length ss ws numbers))
+        ∙ read-done (packed ss ws numbers) room (its .0) (packed-length ss ws numbers) l
+        ∙ ap (λ (x : List ℕ). outcome (done (countOf m)) (x ++ drop (countOf m) room)) (read-packed ss ws numbers apart (its .1))
+
+  -- after reading answered 0: the numbers that it gave
+  module _ (payload room : List ℕ) (e : readBy widthOf m payload room .answer .number ≡ 0) where
+    abbrev numbers : List ℕ
+    numbers = take (countOf m) (readBy widthOf m payload room .memory)
+
+    theirs : (usable widthOf m ≡ true) × (length payload ≡ lengthOf widthOf m) × (countOf m ≤ length room)
+    theirs = done-reads payload room e
+
+    left : readBy widthOf m payload room ≡ outcome (done (countOf m)) (readAll ss ws payload ++ drop (countOf m) room)
+    left = read-done payload room (theirs .0) (theirs .1) (theirs .2)
+
+    many : length (readAll ss ws payload) ≡ countOf m
+    many = read-length ss ws payload ∙ lists-length widthOf m .1
+
+    numbers-are : numbers ≡ readAll ss ws payload
+    numbers-are = ap (λ (o : Outcome). take (countOf m) (o .memory)) left ∙ take-at (readAll ss ws payload) _ (countOf m) many
+
+    fit : Fit ss ws numbers
+    fit = rw numbers-are (read-fit ss ws payload)
+
+    -- further places keep what they held
+    pub read-past : drop (countOf m) (readBy widthOf m payload room .memory) ≡ drop (countOf m) room
+    read-past = ap (λ (o : Outcome). drop (countOf m) (o .memory)) left ∙ drop-at (readAll ss ws payload) _ (countOf m) many
+
+    -- they never make packing answer 14, whatever the buffer
+    pub never-14 : (out : List ℕ) → packedBy widthOf m (take (countOf m) (readBy widthOf m payload room .memory)) out .answer .number ≡ 14 → ⊥
+    unfolding packedBy
+    never-14 out q =
+        elim (decLt (length out) (lengthOf widthOf m)) [
+          | yes l ↦ let z : answerNumber (packedBy widthOf m numbers out) ≡ 13 = ap answerNumber (if-good widthOf m (λ a. outcome a out) _ (theirs .0)) ∙ rw (eq-eqb (length numbers) (countOf m) (fit .count ∙ lists-length widthOf m .1), lt-ltb (length out) (lengthOf widthOf m) l) in omega (arith, z, q)
+          | no l ↦ let z = ap answerNumber (pack-done numbers out (theirs .0) fit (omega arith)) in omega (arith, z, q)
+        ]
+
+    -- and packing them gives the payload with its unassigned bits set to 1
+    pub pack-back : (out : List ℕ) → lengthOf widthOf m ≤ length out
+        → packedBy widthOf m (take (countOf m) (readBy widthOf m payload room .memory)) out
+        ≡ outcome (done (lengthOf widthOf m)) (filled ss ws payload ++ drop (lengthOf widthOf m) out)
+    pack-back out l =
+        pack-done numbers out (theirs .0) fit l
+        ∙ ap (λ (x : List ℕ). outcome (done (lengthOf widthOf m)) (packed ss ws x ++ drop (lengthOf widthOf m) out)) numbers-are
+        ∙ ap (λ (x : List ℕ). outcome (done (lengthOf widthOf m)) (x ++ drop (lengthOf widthOf m) out)) (packed-read ss ws payload (theirs .1))
+
+  -- ---- finding in a usable map
+  module _ (u : usable widthOf m ≡ true) (spn : ℕ) where
+    -- whichever position has the SPN is the one found, with its start and width: a usable map has no SPN twice
+    pub find-one : (i : ℕ) → i < countOf m → spnAt (paramsOf widthOf m) i ≡ spn → foundBy widthOf m spn ≡ foundAt (suc i) (paramsOf widthOf m (suc i))
+    unfolding foundBy positionOf
+    find-one i l e =
+        if-good widthOf m notFound _ u
+        ∙ rw (
+          lowest-at (λ k. eqb (spnAt (paramsOf widthOf m) k) spn) (countOf m) i l
+              (λ k h. ne-eqb _ _ (λ q. usable-sound widthOf m u .once k i h l (q ∙ sym e))) (eq-eqb _ _ e),
+          ne-eqb (suc i) 0 (omega arith),
+        )
+
+    -- where no position has it, it is not found
+    pub find-no : ((i : ℕ) → i < countOf m → spnAt (paramsOf widthOf m) i ≡ spn → ⊥) → foundBy widthOf m spn ≡ notFound (plain 18)
+    unfolding foundBy positionOf
+    find-no n =
+        if-good widthOf m notFound _ u
+        ∙ rw (lowest-none (λ k. eqb (spnAt (paramsOf widthOf m) k) spn) (countOf m) (λ i l. ne-eqb _ _ (n i l)))
+
+-- one finding in numbers, one value of the code's struct
+pub same-found : (f g : Found) → foundIn f ≡ foundIn g → f ≡ g
+same-found f g e =
+    let a = same-answer (f .answer) (g .answer) (ap (λ (x : Finding). x .answer) e) in
+    λ i. record { answer = a i; position = e i .position; start = e i .start; width = e i .width }
