@@ -1,16 +1,15 @@
 -- A chunk behind the bytes that are carried. Assumes nothing.
 use Prim.Native.Nat.{ℕ, _+_, _-_, _*_, _/_, _%_, _≤_, _<_}
-use mathlib.Core.Path.{_≡_, refl, sym, ap, _∙_}
-use mathlib.Core.List.{List, [], _∷_, _++_, append-assoc, append-nil}
+use mathlib.Core.Path.{_≡_, sym, ap, _∙_}
+use mathlib.Core.List.{List, _++_, append-assoc, append-nil}
 use native.Mathlib.Nat.{zero-add}
 use native.Mathlib.Omega.{arith}
-use lib.ListN.{length, take, drop, replicate, length-append, length-take, length-drop, take-append-drop}
+use lib.ListN.{length, take, drop, replicate, length-append, length-drop, take-append-drop}
 use lib.Seq.{take-all, length-take-le}
 use Rattle.splice.specs.Splice.{splice, laid}
 use Rattle.splice.proofs.Laws.{laid-is, length-splice, splice-next}
 use Rattle.record.specs.Cut.{wholeIn, leftOf, over}
 use Rattle.record.proofs.Cutting.{over-more, left-more, over-short, left-short}
-use Rattle.listing.specs.declared.Counts.{Counts}
 use Rattle.listing.specs.declared.Tally.{Tally}
 use Rattle.listing.specs.Feed.{State, state, step, leftIn, padded, Fed, fed, cutOff, feeding}
 

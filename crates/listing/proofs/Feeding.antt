@@ -3,13 +3,13 @@ use Prim.Native.Nat.{ℕ, _<_}
 use mathlib.Core.Path.{_≡_, refl, sym, ap, ap₂, _∙_}
 use mathlib.Core.List.{List, [], _∷_, _++_, append-assoc, append-nil, flatten}
 use borrow.Author.Tests.{lt-ltb}
-use lib.ListN.{length, take, drop, replicate}
+use lib.ListN.{length, drop, replicate}
 use lib.Seq.{take-at}
 use Rattle.record.specs.Cut.{leftOf, over}
 use Rattle.record.proofs.Cutting.{over-short, left-short, in-two, left-less}
 use Rattle.listing.specs.declared.Counts.{Counts}
 use Rattle.listing.specs.declared.Tally.{Tally}
-use Rattle.listing.specs.Feed.{State, state, step, carried, padded, tallyOf, Fed, fed, cutOff, feeding, allFed}
+use Rattle.listing.specs.Feed.{state, step, carried, tallyOf, Fed, fed, cutOff, feeding, allFed}
 
 -- what was left comes back
 carried-back : (c : Counts) (l : List ℕ) → length l < 13 → carried (tallyOf c l) ≡ l

@@ -1,12 +1,12 @@
 -- A page of 512 bytes holds the whole listing, and what is copied from it is the listing. Assumes nothing.
 use Prim.Native.Nat.{ℕ, _+_, _≤_}
 use native.Mathlib.Omega.{arith}
-use mathlib.Core.Path.{_≡_, refl, sym, ap, _∙_, subst}
+use mathlib.Core.Path.{_≡_}
 use mathlib.Core.Bool.{Bool, cond}
 use mathlib.Core.List.{List, [], _∷_, _++_, flatten, append-assoc, append-nil}
 use lib.ListN.{length, take, length-append}
 use Rattle.answers.specs.Answers.{Said, outcome, plain, done}
-use Rattle.splice.specs.Splice.{fits, splice, laid}
+use Rattle.splice.specs.Splice.{fits, laid}
 use Rattle.text.specs.Text.{Page, page, put}
 use Rattle.text.proofs.Pages.{Holds, nothing-yet, holds-more}
 use Rattle.maps.proofs.Tests.{test}

@@ -1,11 +1,11 @@
 -- One record: what the calls on its frame make of the words and the counts. Assumes nothing.
 use Prim.Native.Nat.{ℕ, _+_, _-_, _≤_}
-use mathlib.Core.Path.{_≡_, refl, sym, ap, _∙_}
+use mathlib.Core.Path.{_≡_, sym, ap, _∙_}
 use mathlib.Core.List.{List}
 use native.Mathlib.Omega.{arith}
 use lib.ListN.{length, take, drop, length-drop, take-append-drop}
 use lib.Seq.{drop-drop, length-take-le}
-use Rattle.answers.specs.Answers.{Said, Outcome, outcome}
+use Rattle.answers.specs.Answers.{Said, outcome}
 use Rattle.frame.specs.declared.Fields.{Fields}
 use Rattle.frame.specs.Frame.{fieldsOf}
 use Rattle.message.specs.Message.{firstOf, frameTests, wireOf, Heard, heard}

@@ -3,12 +3,11 @@ use Prim.Native.Nat.{ℕ, zero, suc, _+_, _*_, _/_, _%_, _^_, _≤_, _<_}
 use native.Mathlib.Omega.{arith}
 use native.Mathlib.Decide.{decLt}
 use native.Mathlib.Nat.{pow-suc}
-use mathlib.Core.Path.{_≡_, refl, sym, ap, _∙_}
+use mathlib.Core.Path.{_≡_, _∙_}
 use mathlib.Core.Logic.{inl, inr}
-use mathlib.Core.Bool.{Bool, true, false, cond}
-use mathlib.Core.Option.{Option, none, some}
+use mathlib.Core.Option.{none, some}
 use mathlib.Core.List.{List, [], _∷_, _++_, flatten, flatMap}
-use borrow.Author.Tests.{ltb-true, ltb-false, lt-ltb, le-ltb}
+use borrow.Author.Tests.{ltb-true, lt-ltb, le-ltb}
 use lib.Dec.{ltb, eqb}
 use lib.ListN.{length, length-append}
 use Rattle.answers.specs.Answers.{Judged}
@@ -21,7 +20,7 @@ use Rattle.maps.proofs.Tests.{test}
 use Rattle.maps.proofs.Rules.{Named}
 use Rattle.maps.proofs.Judged.{judged-named}
 use Rattle.history.specs.History.{mostKeys}
-use Rattle.table.specs.Layout.{keyNumber, keyNumbers, keyNamed, stateWord, formWord, rowOf, slotOf}
+use Rattle.table.specs.Layout.{keyNumber, keyNumbers, keyNamed, stateWord, rowOf, slotOf}
 use Rattle.table.specs.View.{rowMap, mapIn}
 use Rattle.table.specs.Next.{lowestFrom, keyAt, nextKey, walk, heldKeys}
 use Rattle.table.specs.Calls.{InBytes}
@@ -30,7 +29,7 @@ use Rattle.listing.specs.declared.Counts.{Counts}
 use Rattle.listing.specs.declared.Tally.{Tally}
 use Rattle.listing.specs.Lines.{lineOf, keyLine, lastLine, listingWith}
 use Rattle.listing.specs.Feed.{leftIn}
-use Rattle.listing.specs.Page.{piecesOf, pageOf}
+use Rattle.listing.specs.Page.{pageOf}
 
 -- ---- numbers
 

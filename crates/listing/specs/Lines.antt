@@ -42,7 +42,7 @@ withAnswer c number = record {
 
 -- ---- lines, as pieces of text that follow each other
 
--- the bytes of a text
+-- the bytes of a text, all of whose characters are ASCII
 abbrev pub spelt : String → List ℕ
 spelt nothing = []
 spelt (c then s) = code c ∷ spelt s

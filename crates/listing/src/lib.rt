@@ -4,7 +4,7 @@ ghost use mathlib.Core.Path.{_≡_};
 ghost use mathlib.Core.List.{[], _∷_, _++_};
 ghost use mathlib.Core.Bool.{cond};
 ghost use Prim.Native.Nat.{_+_, _≤_};
-ghost use lib.ListN.{length, take};
+ghost use lib.ListN.{length};
 ghost use Rattle.answers.specs.Answers.{at as judgedAt, outcome, inNumbers};
 ghost use Rattle.text.specs.Text.{decimalOf, page};
 ghost use Rattle.record.specs.Cut.{leftOf, over};
@@ -28,6 +28,12 @@ const SIZE: usize = 13;
 const ROWS: usize = 16;
 
 const ROW_WORDS: usize = 67;
+
+// The first word of a row is its state; a row that is held and not in conflict has this one.
+const HELD: u64 = 1;
+
+// The word of a row that has the number of parameters in its low byte.
+const FORM: usize = 2;
 
 // How many records there were, how many were refused, and how many were of another PGN; each modulo 2^64.
 pub struct Counts {
@@ -210,10 +216,10 @@ fn count_in(t: &[u64], i: usize) -> u8
         return 0;
     }
     let a = i * ROW_WORDS;
-    if t[a] != 1 {
+    if t[a] != HELD {
         return 0;
     }
-    (t[a + 2] % 256) as u8
+    (t[a + FORM] % 256) as u8
 }
 
 // The number of parameters of a key's map; 0 where it is in conflict, or not held.

@@ -1,9 +1,9 @@
 -- `finish`: the page has room for the listing, and its first bytes are copied. Assumes nothing.
-use mathlib.Core.Path.{_≡_, sym, ap, _∙_}
+use mathlib.Core.Path.{sym, ap, _∙_}
 use mathlib.Core.Bool.{Bool, cond}
 use Prim.Native.Nat.{ℕ, _≤_}
 use native.Mathlib.Omega.{arith}
-use lib.ListN.{length, take, length-take}
+use lib.ListN.{length-take}
 use Rattle.answers.specs.Answers.{done, plain}
 use Rattle.text.specs.Text.{page}
 use Rattle.text.proofs.Pages.{Holds}

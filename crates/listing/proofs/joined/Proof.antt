@@ -1,3 +1,4 @@
+-- `joined`: two copies over 13 zeros. Assumes nothing.
 use Rattle.listing.proofs.Chunks.{joining}
 use borrow.Author.Needs.{needs}
 use Rattle.listing.proofs.joined.Statement.{statement}

@@ -1,3 +1,4 @@
+-- `left_in`: by its one test. Assumes nothing.
 use native.Mathlib.Omega.{arith}
 use borrow.Author.Tests.{lt-ltb, le-ltb}
 use Rattle.listing.proofs.left_in.Statement.{statement}

@@ -1,19 +1,16 @@
 -- `put_key`: the numbers of the line are those of the key's map. Assumes nothing.
-use mathlib.Core.Path.{_≡_, ap, _∙_}
-use Rattle.text.specs.Text.{page}
 use Rattle.table.specs.View.{mapIn}
-use Rattle.listing.specs.Page.{laidAll}
-use Rattle.listing.proofs.Counted.{line-is}
+use Rattle.listing.proofs.Counted.{line-laid}
 use borrow.Author.Needs.{needs}
 use Rattle.listing.proofs.put_key.Statement.{statement}
 use Rattle.listing.proofs.put_key.Tie as tie
 
 returns : tie.Need-returns
 returns c =
-    let a = c .before .before .before .before .before .before .before .before .before .args in
-    c .before .before .put-line .ensures
-    ∙ ap (laidAll (page (a .at) (a .out .now)))
-    (line-is (a .key) (mapIn (a .t .now) (a .key)) _ _ _ (c .before .before .before .before .before .before .judge .result) (c .before .before .before .before .before .before .before .count-of .ensures) (c .before .before .before .before .before .before .judge .ensures) (c .before .before .before .before .before .number-of .ensures) (c .before .before .before .before .position-of .ensures))
+    let b = c .before .before .before .before in
+    let a = b .before .before .before .before .before .args in
+    line-laid _ _ (a .key) (mapIn (a .t .now) (a .key)) _ _ _ (b .before .before .judge .result) (b .before .before .before .count-of .ensures)
+    (b .before .before .judge .ensures) (b .before .number-of .ensures) (b .position-of .ensures) (c .before .before .put-line .ensures)
 
 pub put-key-spec : {M : Type 1} → statement M
 put-key-spec =

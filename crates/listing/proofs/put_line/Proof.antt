@@ -1,3 +1,4 @@
+-- `put_line`: six numbers, one after the other. Assumes nothing.
 use Rattle.listing.proofs.Pieces.{follow}
 use borrow.Author.Needs.{needs}
 use Rattle.listing.proofs.put_line.Statement.{statement}
@@ -5,10 +6,14 @@ use Rattle.listing.proofs.put_line.Tie as tie
 
 returns : tie.Need-returns
 returns c =
-    follow _ _ _ _ _ (c .before .before .before .before .before .before .before .before .before .before .before .before .before .before .before .before .before .before .before .before .before .before .before .before .before .before .before .before .before .put-number .ensures)
-    (follow _ _ _ _ _ (c .before .before .before .before .before .before .before .before .before .before .before .before .before .before .before .before .before .before .before .before .before .before .before .put-number2 .ensures)
-    (follow _ _ _ _ _ (c .before .before .before .before .before .before .before .before .before .before .before .before .before .before .before .before .before .put-number3 .ensures)
-    (follow _ _ _ _ _ (c .before .before .before .before .before .before .before .before .before .before .before .before .put-number4 .ensures) (follow _ _ _ _ _ (c .before .before .before .before .before .before .before .put-number5 .ensures) (c .before .before .put-number6 .ensures)))))
+    let e = c .before .before .before .before .before .before .before in
+    let d = e .before .before .before .before .before in
+    let b = d .before .before .before .before .before in
+    let a = b .before .before .before .before .before .before in
+    follow _ _ _ _ _ (a .before .before .before .before .before .before .put-number .ensures)
+    (follow _ _ _ _ _ (a .put-number2 .ensures)
+    (follow _ _ _ _ _ (b .put-number3 .ensures)
+    (follow _ _ _ _ _ (d .put-number4 .ensures) (follow _ _ _ _ _ (e .put-number5 .ensures) (c .before .before .put-number6 .ensures)))))
 
 pub put-line-spec : {M : Type 1} → statement M
 put-line-spec =

@@ -1,3 +1,4 @@
+-- `put_number`: two pieces, one after the other. Assumes nothing.
 use Rattle.listing.proofs.Pieces.{follow, one-piece}
 use borrow.Author.Needs.{needs}
 use Rattle.listing.proofs.put_number.Statement.{statement}

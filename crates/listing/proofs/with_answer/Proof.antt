@@ -1,3 +1,4 @@
+-- `with_answer`: each count by what its call promises. Assumes nothing.
 use borrow.Author.Needs.{needs}
 use Rattle.listing.proofs.with_answer.Statement.{statement}
 use Rattle.listing.proofs.with_answer.Tie as tie
