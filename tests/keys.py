@@ -380,7 +380,8 @@ def not_held(dice):
     """Keys that are not held, also such as no message can name."""
     run = Run()
     run.learn(EXAMPLE._replace(n=1))
-    for key in ((38, 39, 2), (39, 39, 1), (38, 38, 1), (38, 39, 0), (38, 39, 16), (38, 39, 255), (254, 39, 1), (255, 39, 1), (0, 0, 0), (255, 255, 255)):
+    for key in ((38, 39, 2), (39, 39, 1), (38, 38, 1), (38, 39, 0), (38, 39, 16), (38, 39, 255), (254, 39, 1), (255, 39, 1), (0, 0, 0),
+                (255, 255, 255)):
         run.ask(dice, key)
         run.forget(key)
         run.next(key)

@@ -16,8 +16,8 @@ def told(messages):
 
 
 def cases(dice):
-    for run in (short(dice), rooms_for_16(dice), conflicts(dice), refusals(dice), *(any_log(dice) for _ in range(60)), *(any_table(dice) for _ in range(12))):
-        yield from run.cases
+    for make in (short, rooms_for_16, conflicts, refusals, *[any_log] * 60, *[any_table] * 12):
+        yield from make(dice).cases
 
 
 # ---- Chunks

@@ -45,9 +45,12 @@ class Run:
 
 
 def cases(dice):
-    for run in (sweeps(), figure_5(), full(), forms(), modes(), around_240(), *(any_calls(dice, often) for often in (1, 2, 3, 6)),
-                *(any_words(dice) for _ in range(12))):
-        yield from run.cases
+    for make in (sweeps, figure_5, full, forms, modes, around_240):
+        yield from make().cases
+    for often in (1, 2, 3, 6):
+        yield from any_calls(dice, often).cases
+    for _ in range(12):
+        yield from any_words(dice).cases
 
 
 def frame_with(pgn, dice=None):
