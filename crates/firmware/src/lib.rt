@@ -145,11 +145,15 @@ pub extern "C" fn yendrolf_table_empty(t: &mut [u64; 1072])
     table::empty(t)
 }
 
-// Learns from one frame.
+// Learns from one frame. Most frames are of another PGN: those are answered here and go no further.
 #[no_mangle]
 pub extern "C" fn yendrolf_table_learn(t: &mut [u64; 1072], id: u32, len: u8, d: &[u8; 8]) -> Told
     ensures { λ r. ⌜ outcome (saidTo r) (now (t .exit)) ≡ learnt (now (t .entry)) id len (now (d .entry)) ⌝ }
 {
+    let bad = message::frame_fault(id, len, frame::split(id));
+    if bad != 0 {
+        return in_c(answers::plainly(bad));
+    }
     in_c(table::learn(t, id, len, d))
 }
 
