@@ -1,6 +1,7 @@
 """What the programs `vectors` and `runs` are run on, and what the model says they must write."""
 import keys
 import lists
+import logs
 import pairs
 import rooms
 from dice import Dice
@@ -9,7 +10,7 @@ from dice import Dice
 def files():
     """Every file, as its path under crates/ and its bytes."""
     yield from written("vectors", [*rooms.cases(Dice(74)), *lists.cases(Dice(2010))])
-    yield from written("runs", [*pairs.cases(Dice(31)), *keys.cases(Dice(1939))])
+    yield from written("runs", [*pairs.cases(Dice(31)), *keys.cases(Dice(1939)), *logs.cases(Dice(13))])
 
 
 def written(program, cases):

@@ -1,10 +1,10 @@
-"""The cases of the learned table: learning, forgetting, the held keys, and what is asked about a key. Tags 4 to 13 of the program
-`runs`."""
+"""The cases of the learned table: learning, forgetting, the held keys, what is asked about a key, and listings. Tags 4 to 14 of the
+program `runs`. tests/logs.py has more of the listings."""
 import model
 import rooms
 from dice import TOP, case, line, word, words
 from lists import KNOWN, number_for
-from model import Message
+from model import Answer, Message
 from words import Words, cell_of
 
 EXAMPLE = Message(38, 39, 1, 2, 1, 0, 1, 1517, 0)
@@ -91,6 +91,16 @@ class Run:
     def rows(self, key):
         """The key's (SPN, start, width) where its map is usable."""
         return self.models[-1].usable(key)[1]
+
+    def listing(self, chunks, room):
+        """A log in chunks, listed into a buffer."""
+        texts = [model.listing(b"".join(chunks), each).encode() for each in self.models]
+        assert all(text == texts[0] for text in texts), (chunks, texts)
+        answer, after = (Answer(0, len(texts[0])), texts[0] + room[len(texts[0]):]) if len(texts[0]) <= len(room) else (Answer(13), room)
+        two = lambda number: number.to_bytes(2, "little")
+        given = case(14, two(len(chunks)) + two(len(room))) + b"".join(two(len(chunk)) + chunk for chunk in chunks) + room
+        self.cases.append((given, [line(*answer), after.decode()]))
+        return texts[0]
 
     def ask(self, dice, key):
         """Everything that can be asked about a key: as it should be, and with lengths, numbers and SPNs that are wrong."""
@@ -332,7 +342,7 @@ def usable_maps(dice):
 def spoiled(dice, number, messages):
     """The messages with what earns this judgement, unless another comes first or the map is too small for it."""
     told = list(messages)
-    p = dice.below(len(told))
+    p = dice.within(1 if number in (4, 5, 6) and len(told) > 1 else 0, len(told) - 1)
     q = dice.below(p) if p else 0
     if number == 1:
         told.append(told[p]._replace(**dice.one_of(OTHERS[:6])))
@@ -354,9 +364,10 @@ def spoiled(dice, number, messages):
 def judgements(dice):
     """Maps spoiled for each judgement that can arrive, then for several at once."""
     run = Run()
-    for numbers in [[number] for number in (1, 2, 3, 4, 5, 6, 8) for _ in range(30)] + [dice.some(dice.within(2, 4), (2, 3, 4, 5, 6, 8)) for _ in range(80)]:
+    alone = [[number] for number in (1, 2, 3, 4, 5, 6, 8) for _ in range(30)]
+    for numbers in alone + [dice.some(dice.within(2, 4), (2, 3, 4, 5, 6, 8)) for _ in range(80)]:
         key = some_key(dice)
-        messages = teachable(dice, key, how_many(dice))
+        messages = teachable(dice, key, dice.one_of([1, 2, dice.within(2, 8), dice.within(2, 14)]))
         for number in numbers:
             messages = spoiled(dice, number, messages)
         run.learn(*mixed(dice, messages))
@@ -369,7 +380,8 @@ def not_held(dice):
     """Keys that are not held, also such as no message can name."""
     run = Run()
     run.learn(EXAMPLE._replace(n=1))
-    for key in ((38, 39, 2), (39, 39, 1), (38, 38, 1), (38, 39, 0), (38, 39, 16), (38, 39, 255), (254, 39, 1), (255, 39, 1), (0, 0, 0), (255, 255, 255)):
+    for key in ((38, 39, 2), (39, 39, 1), (38, 38, 1), (38, 39, 0), (38, 39, 16), (38, 39, 255), (254, 39, 1), (255, 39, 1), (0, 0, 0),
+                (255, 255, 255)):
         run.ask(dice, key)
         run.forget(key)
         run.next(key)
@@ -520,7 +532,7 @@ def any_words(dice):
         key = dice.one_of(keys)
         kind = dice.below(6)
         if kind < 3:
-            row = row_for(dice, key, long_map(dice, dice.one_of([1, 2, 3, dice.within(1, 20)])),
+            row = row_for(dice, key, long_map(dice, dice.one_of([1, 2, 3, dice.within(1, 20)]), dice.one_of([None] * 5 + [14280, 14281])),
                           dice.one_of([1, 1, 1, 1, 0, 2, 3, 2**32, 2**64 - 1]), dice.one_of([0, 0, dice.below(2**32)]))
         elif kind == 3:
             m = [message for message in teachable(dice, key, how_many(dice))]

@@ -346,9 +346,9 @@ def filterable(pgn):
 
 # ---- The listing program
 
-def listing(log):
-    """What the listing program writes for a log."""
-    box, answers = Box(), []
+def listing(log, box=None):
+    """What the listing program writes for a log. Its box is a fresh one; another may be given, and learns from the log."""
+    box, answers = box or Box(), []
     whole = len(log) // 13
     for at in range(0, 13 * whole, 13):
         record = log[at:at + 13]

@@ -45,9 +45,12 @@ class Run:
 
 
 def cases(dice):
-    for run in (sweeps(), figure_5(), full(), forms(), modes(), around_240(), *(any_calls(dice) for _ in range(4)),
-                *(any_words(dice) for _ in range(12))):
-        yield from run.cases
+    for make in (sweeps, figure_5, full, forms, modes, around_240):
+        yield from make().cases
+    for often in (1, 2, 3, 6):
+        yield from any_calls(dice, often).cases
+    for _ in range(12):
+        yield from any_words(dice).cases
 
 
 def frame_with(pgn, dice=None):
@@ -174,7 +177,7 @@ def around_240():
 
 
 def pool(dice):
-    return dice.some(20, range(65280, 65536)) + [256 * dice.below(240) for _ in range(12)] + dice.some(8, FORMS)
+    return dice.some(24, range(65280, 65536)) + [256 * pf for pf in dice.some(14, range(240))] + dice.some(8, FORMS)
 
 
 def any_call(dice, run, pairs, pgns):
@@ -184,7 +187,7 @@ def any_call(dice, run, pairs, pgns):
         run.call(ADD, a, b, dice.one_of(pgns))
     elif what < 57:
         run.call(DELETE, a, b, dice.one_of(pgns))
-    elif what < 58:
+    elif what == 57 and dice.below(3) == 0:
         run.call(CLEAR, a, b)
     elif what < 64:
         run.call(SET_MODE, a, b, dice.one_of([0, 0, 1, 1, 2, 255]))
@@ -192,11 +195,11 @@ def any_call(dice, run, pairs, pgns):
         run.call(DECIDE, a, b, dice.one_of([frame_with(dice.one_of(pgns) % 2**18, dice)] * 9 + [dice.below(2**32)]))
 
 
-def any_calls(dice):
-    """Calls on all pairs, on some of them more often, and now and then on ports that are none."""
+def any_calls(dice, often):
+    """Calls on all pairs, on a few of them so often that their lists fill up, and now and then on ports that are none."""
     run = Run()
     pgns = pool(dice)
-    pairs = PAIRS * 2 + dice.some(3, PAIRS) * 12 + [(a, b) for a in (0, 1, 4, 5, 15, 255) for b in (0, 1, 4, 5, 15, 255)][::3]
+    pairs = PAIRS * 2 + dice.some(often, PAIRS) * (60 // often) + [(a, b) for a in (0, 1, 4, 5, 15, 255) for b in (0, 1, 4, 5, 15, 255)][::3]
     for _ in range(2500):
         any_call(dice, run, pairs, pgns)
     return run

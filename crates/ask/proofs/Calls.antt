@@ -78,6 +78,7 @@ module _ (widthOf : ℕ → ℕ) (m : Map) (a : Said) where
     unfolding foundBy
     find-bad spn = rw e (sym (if-bad widthOf m notFound _ h n))
 
+-- what payload tells, as an outcome, test by test
 as-two : (a b : Bool) (x y z : Told) → asOutcome (cond a x (cond b y z)) ≡ cond a (asOutcome x) (cond b (asOutcome y) (asOutcome z))
 as-two true b x y z = refl
 as-two false true x y z = refl
@@ -87,21 +88,27 @@ as-one : (a : Bool) (x y : Told) → asOutcome (cond a x y) ≡ cond a (asOutcom
 as-one true x y = refl
 as-one false x y = refl
 
--- where payload's lists are a usable map's, its calls never find a position without a place, and tell what 01 asks
+-- where payload's lists are a usable map's, its calls never find a position without a place (`usable-placed`), and tell what 01 asks
 module _ (widthOf : ℕ → ℕ) (most : (x : ℕ) → widthOf x ≤ 32) (m : Map) (u : usable widthOf m ≡ true) (few : countOf m ≤ 64) where
-  pub pack-told : (numbers out : List ℕ) → asOutcome (packing (startsOf widthOf m) (widthsOf widthOf m) numbers out) ≡ packedBy widthOf m numbers out
+  packing-is : (numbers out : List ℕ) → asOutcome (packing (startsOf widthOf m) (widthsOf widthOf m) numbers out) ≡ packedBy widthOf m numbers out
   unfolding packing packedBy
-  pack-told numbers out =
+  packing-is numbers out =
       rw (usable-placed widthOf m u most few, lists-length widthOf m .1)
       (as-two (not (eqb (length numbers) (countOf m)) || ltb (length out) (lengthOf widthOf m)) (ltb 0 (tooWideIn (widthsOf widthOf m) numbers)) _ _ _
       ∙ sym (if-good widthOf m (λ a. outcome a out) _ u))
 
-  pub read-told : (payload room : List ℕ) → asOutcome (reading (startsOf widthOf m) (widthsOf widthOf m) payload room) ≡ readBy widthOf m payload room
+  reading-is : (payload room : List ℕ) → asOutcome (reading (startsOf widthOf m) (widthsOf widthOf m) payload room) ≡ readBy widthOf m payload room
   unfolding reading readBy
-  read-told payload room =
+  reading-is payload room =
       rw (usable-placed widthOf m u most few, lists-length widthOf m .1)
-      (as-one (not (eqb (length payload) (lengthOf widthOf m)) || ltb (length room) (countOf m)) _ _
-      ∙ sym (if-good widthOf m (λ a. outcome a room) _ u))
+      (as-one (not (eqb (length payload) (lengthOf widthOf m)) || ltb (length room) (countOf m)) _ _ ∙ sym (if-good widthOf m (λ a. outcome a room) _ u))
+
+  module _ (starts widths : List ℕ) (l : (starts ≡ startsOf widthOf m) × (widths ≡ widthsOf widthOf m)) (t : Told) (o : Outcome) (e : o ≡ asOutcome t) where
+    pub pack-told : (numbers out : List ℕ) → t ≡ packing starts widths numbers out → o ≡ packedBy widthOf m numbers out
+    pack-told numbers out f = rw (e, f, l .0, l .1) (packing-is numbers out)
+
+    pub read-told : (payload room : List ℕ) → t ≡ reading starts widths payload room → o ≡ readBy widthOf m payload room
+    read-told payload room f = rw (e, f, l .0, l .1) (reading-is payload room)
 
 -- a held map's judgement is its answer
 pub judge-held : (widthOf : ℕ → ℕ) (m : Map) → isHeld m ≡ true → judged (judge widthOf m) ≡ judgedBy widthOf m

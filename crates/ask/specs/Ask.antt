@@ -30,7 +30,7 @@ abbrev pub ifUsable : {A : Type 0} → (ℕ → ℕ) → Map → (Said → A) �
 ifUsable widthOf m refused rest =
     cond (not (isHeld m)) (refused (plain 11)) (cond (not (usable widthOf m)) (refused (unusable (judge widthOf m))) rest)
 
--- "Pack and read test 11, 12, 13, 14." "Packing takes exactly n numbers in position order and a buffer of at least L bytes. Bytes past L keep
+-- "Pack and read test 11, 12, 13, 14". "Packing takes exactly n numbers in position order and a buffer of at least L bytes. Bytes past L keep
 -- what they held." 14 names the lowest position whose number needs more than its width. "Answer 0 of pack carries L as its detail"; a
 -- refusal leaves the buffer as it was
 unfoldable pub packedBy : (ℕ → ℕ) → Map → List ℕ → List ℕ → Outcome
@@ -40,8 +40,8 @@ packedBy widthOf m numbers out =
     (cond (ltb 0 (tooWideIn (widthsOf widthOf m) numbers)) (outcome (detailed 14 (tooWideIn (widthsOf widthOf m) numbers)) out)
     (outcome (done (lengthOf widthOf m)) (packed (startsOf widthOf m) (widthsOf widthOf m) numbers ++ drop (lengthOf widthOf m) out))))
 
--- "Reading takes a payload of exactly L bytes and room for at least n numbers; further places keep what they held." "Answer 0 carries .. of
--- read n"; it packs nothing, so 14 is never given. A refusal leaves the room as it was
+-- "Reading takes a payload of exactly L bytes and room for at least n numbers; further places keep what they held." Answer 0 "of
+-- read" carries "n"; it packs nothing, so 14 is never given. A refusal leaves the room as it was
 unfoldable pub readBy : (ℕ → ℕ) → Map → List ℕ → List ℕ → Outcome
 readBy widthOf m payload room =
     ifUsable widthOf m (λ a. outcome a room)
@@ -73,7 +73,7 @@ foundAt p x = record { answer = done 0; position = p; start = startIn x; width =
 unfoldable pub positionOf : (ℕ → ℕ) → Map → ℕ → ℕ
 positionOf widthOf m spn = lowest (λ i. eqb (spnAt (paramsOf widthOf m) i) spn) (countOf m)
 
--- "Finding an SPN in a key's map tests 11, 12, 18"
+-- "finding an SPN in a key's map tests 11, 12, 18"
 unfoldable pub foundBy : (ℕ → ℕ) → Map → ℕ → Finding
 foundBy widthOf m spn =
     ifUsable widthOf m notFound

@@ -9,6 +9,7 @@ ghost use lib.ListN.{length, getD};
 ghost use Rattle.answers.specs.Answers.{saidOf, inNumbers, outcome};
 ghost use Rattle.payload.specs.Bits.{lowest};
 ghost use Rattle.payload.specs.Calls.{toldBy};
+ghost use Rattle.rows.specs.Rows.{pairs};
 ghost use Rattle.dictionary.specs.Dictionary.{widthOf};
 ghost use Rattle.maps.specs.Judge.{spnIn, startIn, withWidth, mark, judge as judgementOf};
 ghost use Rattle.table.specs.Layout.{tableWords, rowWords, positions, keyOf};
@@ -82,18 +83,26 @@ fn start_of(cell: u64) -> u32
 
 // The width of a cell's parameter by its SPN, or the mark that nothing stands there. Every width that a call uses comes from here, once for each
 // parameter.
-fn width_in(cell: u64, spn: u32) -> u32
+fn width_in(rows: &[[u32; 2]], cell: u64, spn: u32) -> u32
+    requires { ⌜ now rows ≡ pairs ⌝ }
     ensures { λ r. ⌜ r ≡ cond (eqb cell 0) mark (widthOf spn) ⌝ }
 {
     if cell == 0 {
         return maps::MISSING;
     }
-    dictionary::width_of(spn)
+    dictionary::width_in(rows, spn)
 }
 
-// Unfolds a row: its 64 cells as SPNs, starts and widths.
-fn unfold_row(row: &[u64], spns: &mut [u32], starts: &mut [u32], widths: &mut [u32])
-    requires { ⌜ (length (now row) ≡ rowWords) × (length (now spns) ≡ positions) × (length (now starts) ≡ positions) × (length (now widths) ≡ positions) ⌝ }
+// Unfolds a row: its 64 cells as SPNs, starts and widths, whatever n its form says. An empty cell asks nothing of the dictionary, and a position past
+// the 64 is missing.
+fn unfold_row(
+    rows: &[[u32; 2]],
+    row: &[u64],
+    spns: &mut [u32],
+    starts: &mut [u32],
+    widths: &mut [u32],
+)
+    requires { ⌜ (now rows ≡ pairs) × (length (now row) ≡ rowWords) × (length (now spns) ≡ positions) × (length (now starts) ≡ positions) × (length (now widths) ≡ positions) ⌝ }
     ensures { λ _. ⌜ (now (spns .exit) ≡ spnsIn (now (row .entry))) × (now (starts .exit) ≡ startsIn (now (row .entry)))
         × (now (widths .exit) ≡ widthsIn (now (row .entry))) ⌝ }
 {
@@ -104,7 +113,7 @@ fn unfold_row(row: &[u64], spns: &mut [u32], starts: &mut [u32], widths: &mut [u
         let start = start_of(cell);
         spns[i] = spn;
         starts[i] = start;
-        widths[i] = width_in(cell, spn);
+        widths[i] = width_in(rows, cell, spn);
         i += 1;
     }
 }
@@ -115,7 +124,8 @@ fn judge_row(row: &[u64], spns: &mut [u32], starts: &mut [u32], widths: &mut [u3
     ensures { λ r. ⌜ (saidOf r ≡ judgementOf widthOf (rowMap (now (row .entry)))) × (now (spns .exit) ≡ spnsIn (now (row .entry)))
         × (now (starts .exit) ≡ startsIn (now (row .entry))) × (now (widths .exit) ≡ widthsIn (now (row .entry))) ⌝ }
 {
-    unfold_row(row, spns, starts, widths);
+    let rows = rows::all();
+    unfold_row(&rows, row, spns, starts, widths);
     if row[STATE] != HELD {
         return Judgement::Conflict;
     }
@@ -123,7 +133,7 @@ fn judge_row(row: &[u64], spns: &mut [u32], starts: &mut [u32], widths: &mut [u3
     maps::judge(n_of(form), transport_of(form), spns, starts, widths)
 }
 
-// What packing or reading a usable map told, as an answer.
+// What packing or reading told, as an answer. Of a usable map each position has its place (law usable-placed), so that Unplaced never comes.
 fn told(laying: Laying) -> Answer
     ensures { λ r. ⌜ ((b : List ℕ) → outcome (inNumbers r) b ≡ asOutcome (toldBy laying b)) ⌝ }
 {

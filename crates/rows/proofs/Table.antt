@@ -1,13 +1,12 @@
--- The table: it has as many rows as it says and obeys its rule, each computed once over all rows; and a row comes out of its pair of
--- numbers as it went in, at any row of any list.
+-- The table: it has as many rows as it says and obeys its rule, each computed once over all rows; and the rows come out of
+-- their pairs of numbers as they went in.
 -- Assumes nothing.
-use mathlib.Core.Path.{_≡_, refl}
+use mathlib.Core.Path.{_≡_, refl, ap}
 use mathlib.Core.List.{List, [], _∷_, map}
-use Prim.Native.Nat.{ℕ, zero, suc}
 use lib.Dec.{T}
-use lib.ListN.{length, getD}
+use lib.ListN.{length}
 use Rattle.rows.specs.declared.Row.{Row}
-use Rattle.rows.specs.Rows.{row, rowIn, ruled, rowCount, table}
+use Rattle.rows.specs.Rows.{row, ruled, rowCount, table, pair, pairs, rowsOf}
 
 pub size : length table ≡ rowCount
 unfolding table
@@ -18,11 +17,11 @@ pub table-ruled : T (ruled 0 table)
 unfolding ruled table
 table-ruled = tt
 
--- a row as the code's table has it
-abbrev pub pair : Row → List ℕ
-pair r = r .spn ∷ r .width ∷ []
+-- rows come out of their pairs as they went in
+back : (rows : List Row) → rowsOf (map pair rows) ≡ rows
+back [] = refl
+back (r ∷ rows) = ap (λ (l : List Row). r ∷ l) (back rows)
 
-pub pairs-at : (rows : List Row) (i : ℕ) → row (getD (getD (map pair rows) i []) 0 0) (getD (getD (map pair rows) i []) 1 0) ≡ rowIn rows i
-pairs-at [] i = refl
-pairs-at (r ∷ rows) zero = refl
-pairs-at (r ∷ rows) (suc i) = pairs-at rows i
+pub rows-back : rowsOf pairs ≡ table
+unfolding pairs
+rows-back = back table

@@ -2,7 +2,7 @@
 -- Assumes nothing.
 use Prim.Native.Nat.{ℕ, suc}
 use mathlib.Core.Bool.{Bool, true, _&&_}
-use mathlib.Core.List.{List, [], _∷_}
+use mathlib.Core.List.{List, [], _∷_, map}
 use lib.Dec.{leb}
 use lib.ListN.{getD}
 use Rattle.rows.specs.declared.Row.{Row}
@@ -168,6 +168,17 @@ table =
     row 3330 24 ∷
     row 3333 16 ∷
     []
+
+-- a row as the code's table has it, and all rows so
+abbrev pub pair : Row → List ℕ
+pair r = r .spn ∷ r .width ∷ []
+
+unfoldable pub pairs : List (List ℕ)
+pairs = map pair table
+
+-- the rows that pairs of numbers stand for
+abbrev pub rowsOf : List (List ℕ) → List Row
+rowsOf ps = map (λ p. row (getD p 0 0) (getD p 1 0)) ps
 
 -- row i of the dictionary
 abbrev pub rowAt : ℕ → Row

@@ -2,7 +2,7 @@
 // (01, "A set and its judgement"; 002, Appendix C and 5.3). tools/rowscheck compares them with 002's text. The crate is slow to check,
 // so it holds the table alone, with its rule tested over all rows; the look-up is the crate dictionary's.
 ghost use mathlib.Core.Path.{_≡_};
-ghost use Rattle.rows.specs.Rows.{rowAt};
+ghost use Rattle.rows.specs.Rows.{pairs};
 
 // A row of the dictionary: an SPN and its width in bits.
 pub struct Row {
@@ -157,16 +157,10 @@ const ROWS: [[u32; 2]; 140] = [
     [3333, 16],
 ];
 
-// Row i, counted from 0; zeros past the end.
-pub fn row_at(i: usize) -> Row
-    ensures { λ r. ⌜ r ≡ rowAt i ⌝ }
+// All rows. The compiler lays a const out anew wherever code names it, so it is named here alone, and a call that looks several SPNs up asks for the
+// rows once and lends them on.
+pub fn all() -> [[u32; 2]; COUNT]
+    ensures { λ r. ⌜ r ≡ pairs ⌝ }
 {
-    if COUNT <= i {
-        return Row { spn: 0, width: 0 };
-    }
-    let row = ROWS[i];
-    Row {
-        spn: row[0],
-        width: row[1],
-    }
+    ROWS
 }

@@ -15,9 +15,11 @@
 //   11 key, SPN                      what find answers, with position, start and width
 //   12 key, numbers, buffer          what pack answers, and the whole buffer
 //   13 key, room, payload            what read answers, and the whole room
+//   14 chunks, buffer                what the listing of a log in chunks answers, and the whole buffer as text
 mod asks;
 mod filters;
 mod keys;
+mod logs;
 mod said;
 
 use libc::STDIN_FILENO;
@@ -30,7 +32,8 @@ fn run(w: &mut [u32; ports::WORDS], t: &mut [u64; table::WORDS], b: &[u8; 14]) {
         }
         1..=3 => filters::run(w, b),
         4..=9 => keys::run(t, b),
-        _ => asks::run(t, b),
+        10..=13 => asks::run(t, b),
+        _ => logs::run(t, b),
     }
 }
 

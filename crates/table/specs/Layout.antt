@@ -1,6 +1,6 @@
 -- The learned table in lent words: 16 rows, one for each key that has room, of 67 words. Every definition is total, on any list of words.
--- Of a row: word 0 its state (0 free, 1 held, any other: in conflict), word 1 the key's number, word 2 the form (n and the two flags), word 2 + p the
--- cell of position p (0 nothing, else SPN and start).
+-- Of a row: word 0 its state (0 free, 1 held, any other: in conflict), word 1 the key's number, word 2 the form (n and the two flags, in its low ten bits),
+-- word 2 + p the cell of position p (0 nothing, else SPN and start).
 -- Assumes nothing.
 use Prim.Native.Nat.{ℕ, _+_, _*_, _/_, _%_, _^_, _≤_}
 use mathlib.Core.Bool.{Bool, cond, not, _&&_}

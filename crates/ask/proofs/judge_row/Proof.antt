@@ -11,7 +11,7 @@ use Rattle.ask.proofs.judge_row.Tie as tie
 returns : tie.Need-returns
 returns c =
     let u = c .before .before .before .before .before .before .before .before in
-    let row = now (u .before .before .before .before .before .before .before .before .args .row) in
+    let row = now (u .before .before .before .before .before .before .before .before .before .before .args .row) in
     let e = u .unfold-row .ensures in
     (sym (ap (judge widthOf) (map-conflict row (c .if1 .taken))), e .0, e .1, e .2)
 
@@ -19,7 +19,7 @@ returns-2 : tie.Need-returns-2
 returns-2 c =
     let d = c .before .before .before .before .before .before .before in
     let u = d .before .before .before .before .before .before .before .before in
-    let row = now (u .before .before .before .before .before .before .before .before .args .row) in
+    let row = now (u .before .before .before .before .before .before .before .before .before .before .args .row) in
     let e = u .unfold-row .ensures in (
       row-judged row _ _ _ _ _ _ (d .if1 .left) (c .before .before .before .before .before .n-of .ensures) (c .before .before .before .before .transport-of .ensures)
           (e .0) (e .1) (e .2) (c .judge .ensures),
@@ -31,6 +31,6 @@ returns-2 c =
 pub judge-row-spec : {M : Type 1} → statement M
 judge-row-spec =
     tie.close
-    (tie.spec (λ c κs. search needs) (λ c. search needs) (λ c. search needs) (λ c. search needs) (λ c. search needs) returns
+    (tie.spec (λ c κs. search needs) (λ c. search needs) (λ c κs. search needs) (λ c. search needs) (λ c. search needs) (λ c. search needs) (λ c. search needs) returns
     (λ c. search needs) (λ c κs. search needs) (λ c κs. search needs) (λ c κs. search needs)
     (λ c. search needs) (λ c. search needs) (λ c. search needs) returns-2)

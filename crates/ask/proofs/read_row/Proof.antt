@@ -7,12 +7,10 @@ use denote.Ref.{now}
 use borrow.Author.Needs.{needs}
 use lib.Seq.{length-take-le}
 use Rattle.answers.specs.Answers.{unusable}
-use Rattle.payload.specs.Calls.{reading}
 use Rattle.dictionary.specs.Dictionary.{widthOf}
 use Rattle.dictionary.proofs.Table.{width-most}
 use Rattle.maps.specs.Judge.{usable}
 use Rattle.table.specs.View.{rowMap}
-use Rattle.ask.specs.Unfolded.{asOutcome}
 use Rattle.ask.proofs.Unfolded.{row-held, count-is, count-most, first-n}
 use Rattle.ask.proofs.Calls.{test-bad, test-good, read-bad, read-told}
 use Rattle.ask.proofs.read_row.Statement.{statement}
@@ -50,10 +48,9 @@ returns-2 c =
     let s = j .before .before .before .before .before .before .before .args in
     let row = now (s .row) in
     let u = good d in
-    let l = first-n row u _ _ _ (d .n-of .ensures) (j .judge-row .ensures .2) (j .judge-row .ensures .3) in
-    c .told .ensures _ ∙ (λ k. asOutcome (c .before .before .before .read .ensures k))
-    ∙ (λ k. asOutcome (reading (l .0 k) (l .1 k) (now (s .payload)) (now (s .room))))
-    ∙ read-told widthOf width-most (rowMap row) u (omega (arith, count-is row u, count-most row u)) (now (s .payload)) (now (s .room))
+    read-told widthOf width-most (rowMap row) u (omega (arith, count-is row u, count-most row u)) _ _
+    (first-n row u _ _ _ (d .n-of .ensures) (j .judge-row .ensures .2) (j .judge-row .ensures .3)) _ _ (c .told .ensures _)
+    (now (s .payload)) (now (s .room)) (c .before .before .before .read .ensures)
 
 pub read-row-spec : {M : Type 1} → statement M
 read-row-spec =

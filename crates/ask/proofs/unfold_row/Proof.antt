@@ -15,7 +15,7 @@ use Rattle.ask.proofs.unfold_row.Statement.{statement}
 use Rattle.ask.proofs.unfold_row.Tie as tie
 
 abbrev Inv-loop : tie.InvT-loop
-Inv-loop row spns₀ starts₀ widths₀ i₀ spns starts widths i =
+Inv-loop rows row spns₀ starts₀ widths₀ i₀ spns starts widths i =
     (i ≤ positions)
     × (length spns ≡ positions) × (length starts ≡ positions) × (length widths ≡ positions)
     × (spns ≡ tabulate (spnAt (paramsIn row)) i ++ drop i spns₀)
@@ -23,7 +23,7 @@ Inv-loop row spns₀ starts₀ widths₀ i₀ spns starts widths i =
     × (widths ≡ tabulate (λ k. markedWidth (paramsIn row (suc k))) i ++ drop i widths₀)
 
 abbrev μ-loop : tie.MeasureT-loop
-μ-loop row spns₀ starts₀ widths₀ i₀ spns starts widths i = positions - i
+μ-loop rows row spns₀ starts₀ widths₀ i₀ spns starts widths i = positions - i
 
 loop-holds : tie.Need-loop-holds Inv-loop μ-loop
 unfolding tabulate

@@ -1,0 +1,33 @@
+/* The calls of include/yendrolf.h once more, in plain C that is written to be fast: what the Rattle library is measured beside (bench/run). */
+#ifndef FAST_H
+#define FAST_H
+
+#include "../include/yendrolf.h"
+
+/* The prefix of the functions: tests/compare/run --c builds them under the library's own names, to compare them with tests/compare/plain.c too. */
+#ifndef FAST
+#define FAST(name) fast_##name
+#endif
+
+void FAST(table_empty)(uint64_t *table);
+yendrolf_told FAST(table_learn)(uint64_t *table, uint32_t identifier, uint8_t length, const uint8_t *data);
+yendrolf_told FAST(table_forget)(uint64_t *table, uint8_t source, uint8_t destination, uint8_t k);
+yendrolf_told FAST(table_judge)(const uint64_t *table, uint8_t source, uint8_t destination, uint8_t k);
+yendrolf_told FAST(table_pack)(const uint64_t *table, uint8_t source, uint8_t destination, uint8_t k, const uint32_t *numbers, size_t count,
+    uint8_t *payload, size_t size);
+yendrolf_told FAST(table_read)(const uint64_t *table, uint8_t source, uint8_t destination, uint8_t k, const uint8_t *payload, size_t size,
+    uint32_t *numbers, size_t room);
+yendrolf_found FAST(table_find)(const uint64_t *table, uint8_t source, uint8_t destination, uint8_t k, uint32_t spn);
+yendrolf_key FAST(table_first_key)(const uint64_t *table);
+yendrolf_key FAST(table_next_key)(const uint64_t *table, uint8_t source, uint8_t destination, uint8_t k);
+yendrolf_log FAST(log_start)(void);
+yendrolf_log FAST(table_feed)(uint64_t *table, yendrolf_log log, const uint8_t *chunk, size_t size);
+yendrolf_told FAST(table_finish)(const uint64_t *table, yendrolf_log log, uint8_t *text, size_t room);
+void FAST(filters_fresh)(uint32_t *filters);
+yendrolf_told FAST(filters_add)(uint32_t *filters, uint8_t from, uint8_t to, uint32_t pgn);
+yendrolf_told FAST(filters_delete)(uint32_t *filters, uint8_t from, uint8_t to, uint32_t pgn);
+yendrolf_told FAST(filters_clear)(uint32_t *filters, uint8_t from, uint8_t to);
+yendrolf_told FAST(filters_set_mode)(uint32_t *filters, uint8_t from, uint8_t to, uint8_t mode);
+yendrolf_told FAST(filters_decide)(const uint32_t *filters, uint8_t from, uint8_t to, uint32_t identifier);
+
+#endif

@@ -1,0 +1,12 @@
+-- `firmware::yendrolf_log_start` meets its contract: the promise of the room below, as C keeps it.
+-- Assumes nothing.
+use mathlib.Core.Path.{_∙_}
+use borrow.Author.Needs.{needs}
+use Rattle.firmware.proofs.yendrolf_log_start.Statement.{statement}
+use Rattle.firmware.proofs.yendrolf_log_start.Tie as tie
+
+returns : tie.Need-returns
+returns c = c .log-of .ensures ∙ c .before .start .ensures
+
+pub yendrolf-log-start-spec : {M : Type 1} → statement M
+yendrolf-log-start-spec = tie.close (tie.spec (λ c κs. search needs) (λ c κs. search needs) returns)

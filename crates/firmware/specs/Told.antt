@@ -1,0 +1,38 @@
+-- What C gets, in 01's numbers.
+-- Assumes nothing.
+use Prim.Native.Nat.{ℕ}
+use mathlib.Core.Option.{Option, none, some}
+use Rattle.answers.specs.Answers.{Said, saidOf}
+use Rattle.answers.specs.declared.Answer.{Answer}
+use Rattle.message.specs.declared.Key.{Key}
+use Rattle.firmware.specs.declared.Told.{Told}
+use Rattle.ask.specs.Ask.{Finding}
+use Rattle.listing.specs.declared.Tally.{Tally}
+use Rattle.firmware.specs.declared.Held.{Held}
+use Rattle.firmware.specs.declared.Located.{Located}
+use Rattle.firmware.specs.declared.Log.{Log}
+
+-- an answer: its four fields are the four of `Said`
+abbrev pub saidTo : Told → Said
+saidTo t = record { number = t .number; detail = t .detail; judgement = t .judgement; position = t .position }
+
+-- an answer of the rooms below, as C gets it
+abbrev pub toldOf : Answer → Told
+toldOf a = record { number = a .number; detail = a .detail; judgement = saidOf (a .judgement) .number; position = saidOf (a .judgement) .position }
+
+-- what finding gives
+abbrev pub findingTo : Located → Finding
+findingTo f = record { answer = saidTo (f .told); position = f .position; start = f .start; width = f .width }
+
+-- a held key: 1 and the key, or four times 0
+abbrev pub heldOf : Option Key → Held
+heldOf (some k) = record { held = 1; source = k .source; destination = k .destination; k = k .k }
+heldOf none = record { held = 0; source = 0; destination = 0; k = 0 }
+
+-- what is kept of a log
+abbrev pub tallyIn : Log → Tally
+tallyIn l = record {
+  counts = record { records = l .records; refused = l .refused; other = l .other };
+  left = l .left;
+  carry = l .carry;
+}

@@ -1,0 +1,318 @@
+// The box's calls for C (include/yendrolf.h declares them): each is one call of a room below, on memory that C lends as one pointer, and has that
+// room's promise. The length of what is lent stands in the type, so it is C that answers for it; include/yendrolf.h makes it one block.
+ghost use mathlib.Core.Path.{_≡_};
+ghost use Rattle.answers.specs.Answers.{inNumbers, outcome};
+ghost use Rattle.table.specs.Layout.{keyOf, keyNumber};
+ghost use Rattle.table.specs.Learn.{learnt, emptyTable};
+ghost use Rattle.table.specs.Forget.{forgotten};
+ghost use Rattle.table.specs.Next.{keyFound, firstKey, nextKey};
+ghost use Rattle.table.specs.View.{mapIn};
+ghost use Rattle.dictionary.specs.Dictionary.{widthOf};
+ghost use Rattle.ask.specs.Ask.{judgedBy, packedBy, readBy, foundIn, foundBy};
+ghost use Rattle.listing.specs.Feed.{started, fed, feeding};
+ghost use Rattle.listing.specs.Page.{finished};
+ghost use Rattle.ports.specs.declared.Command.the-variants.{Add, Delete, Clear, SetMode};
+ghost use Rattle.ports.specs.Filters.{commanded, decided, freshWords};
+ghost use Rattle.firmware.specs.Told.{saidTo, toldOf, heldOf, findingTo, tallyIn};
+use answers::Answer;
+use ask::Found;
+use listing::Counts;
+use listing::Tally;
+use table::Next;
+
+// An answer in 01's numbers: judgement and position are 0 but for 12 and for 0 of judging, where they are the detail.
+#[repr(C)]
+pub struct Told {
+    pub number: u32,
+    pub detail: u32,
+    pub judgement: u32,
+    pub position: u32,
+}
+
+// An answer as C gets it.
+fn in_c(a: Answer) -> Told
+    ensures { λ r. ⌜ r ≡ toldOf a ⌝ }
+{
+    let judgement = a.judgement;
+    Told {
+        number: a.number as u32,
+        detail: a.detail,
+        judgement: answers::number_of(judgement) as u32,
+        position: answers::position_of(judgement) as u32,
+    }
+}
+
+// What finding gives; position, start and width are 0 on a refusal.
+#[repr(C)]
+pub struct Located {
+    pub told: Told,
+    pub position: u32,
+    pub start: u32,
+    pub width: u32,
+}
+
+// What finding gives, as C gets it.
+fn found_in_c(found: Found) -> Located
+    ensures { λ r. ⌜ findingTo r ≡ foundIn found ⌝ }
+{
+    let answer = found.answer;
+    let told = in_c(answer);
+    Located {
+        told,
+        position: found.position as u32,
+        start: found.start,
+        width: found.width,
+    }
+}
+
+// A held key, or four times 0.
+#[repr(C)]
+pub struct Held {
+    pub held: u32,
+    pub source: u32,
+    pub destination: u32,
+    pub k: u32,
+}
+
+// A key as C gets it.
+fn key_in_c(next: Next) -> Held
+    ensures { λ r. ⌜ r ≡ heldOf (keyFound next) ⌝ }
+{
+    match next {
+        Next::Found(key) => Held {
+            held: 1,
+            source: key.source as u32,
+            destination: key.destination as u32,
+            k: key.k as u32,
+        },
+        Next::NoMore => Held {
+            held: 0,
+            source: 0,
+            destination: 0,
+            k: 0,
+        },
+    }
+}
+
+// What is kept of a log from chunk to chunk: its counts, and the first `left` bytes of a record that is not whole yet.
+#[repr(C)]
+pub struct Log {
+    pub records: u64,
+    pub refused: u64,
+    pub other: u64,
+    pub left: usize,
+    pub carry: [u8; 13],
+}
+
+// A tally as C keeps it.
+fn log_of(tally: Tally) -> Log
+    ensures { λ r. ⌜ tallyIn r ≡ tally ⌝ }
+{
+    let counts = tally.counts;
+    let carry = tally.carry;
+    Log {
+        records: counts.records,
+        refused: counts.refused,
+        other: counts.other,
+        left: tally.left,
+        carry,
+    }
+}
+
+// The tally that C kept.
+fn tally_of(log: Log) -> Tally
+    ensures { λ r. ⌜ r ≡ tallyIn log ⌝ }
+{
+    let carry = log.carry;
+    Tally {
+        counts: Counts {
+            records: log.records,
+            refused: log.refused,
+            other: log.other,
+        },
+        left: log.left,
+        carry,
+    }
+}
+
+// ---- the learned table
+
+// Makes an empty table of any words.
+#[no_mangle]
+pub extern "C" fn yendrolf_table_empty(t: &mut [u64; 1072])
+    ensures { λ r. ⌜ now (t .exit) ≡ emptyTable ⌝ }
+{
+    table::empty(t)
+}
+
+// Learns from one frame.
+#[no_mangle]
+pub extern "C" fn yendrolf_table_learn(t: &mut [u64; 1072], id: u32, len: u8, d: &[u8; 8]) -> Told
+    ensures { λ r. ⌜ outcome (saidTo r) (now (t .exit)) ≡ learnt (now (t .entry)) id len (now (d .entry)) ⌝ }
+{
+    in_c(table::learn(t, id, len, d))
+}
+
+// Forgets one key.
+#[no_mangle]
+pub extern "C" fn yendrolf_table_forget(
+    t: &mut [u64; 1072],
+    source: u8,
+    destination: u8,
+    k: u8,
+) -> Told
+    ensures { λ r. ⌜ outcome (saidTo r) (now (t .exit)) ≡ forgotten (now (t .entry)) (keyNumber (keyOf source destination k)) ⌝ }
+{
+    in_c(table::forget(t, source, destination, k))
+}
+
+// Judges a key's map.
+#[no_mangle]
+pub extern "C" fn yendrolf_table_judge(t: &[u64; 1072], source: u8, destination: u8, k: u8) -> Told
+    ensures { λ r. ⌜ saidTo r ≡ judgedBy widthOf (mapIn (now (t .entry)) (keyOf source destination k)) ⌝ }
+{
+    in_c(ask::judge(t, source, destination, k))
+}
+
+// Packs numbers by a key's map.
+#[no_mangle]
+pub extern "C" fn yendrolf_table_pack(
+    t: &[u64; 1072],
+    source: u8,
+    destination: u8,
+    k: u8,
+    numbers: &[u32],
+    payload: &mut [u8],
+) -> Told
+    ensures { λ r. ⌜ outcome (saidTo r) (now (payload .exit))
+        ≡ packedBy widthOf (mapIn (now (t .entry)) (keyOf source destination k)) (now (numbers .entry)) (now (payload .entry)) ⌝ }
+{
+    in_c(ask::pack(t, source, destination, k, numbers, payload))
+}
+
+// Reads a payload by a key's map.
+#[no_mangle]
+pub extern "C" fn yendrolf_table_read(
+    t: &[u64; 1072],
+    source: u8,
+    destination: u8,
+    k: u8,
+    payload: &[u8],
+    numbers: &mut [u32],
+) -> Told
+    ensures { λ r. ⌜ outcome (saidTo r) (now (numbers .exit))
+        ≡ readBy widthOf (mapIn (now (t .entry)) (keyOf source destination k)) (now (payload .entry)) (now (numbers .entry)) ⌝ }
+{
+    in_c(ask::read(t, source, destination, k, payload, numbers))
+}
+
+// Finds an SPN in a key's map.
+#[no_mangle]
+pub extern "C" fn yendrolf_table_find(
+    t: &[u64; 1072],
+    source: u8,
+    destination: u8,
+    k: u8,
+    spn: u32,
+) -> Located
+    ensures { λ r. ⌜ findingTo r ≡ foundBy widthOf (mapIn (now (t .entry)) (keyOf source destination k)) spn ⌝ }
+{
+    found_in_c(ask::find(t, source, destination, k, spn))
+}
+
+// The lowest held key.
+#[no_mangle]
+pub extern "C" fn yendrolf_table_first_key(t: &[u64; 1072]) -> Held
+    ensures { λ r. ⌜ r ≡ heldOf (firstKey (now (t .entry))) ⌝ }
+{
+    key_in_c(table::first_key(t))
+}
+
+// The lowest held key above the given one.
+#[no_mangle]
+pub extern "C" fn yendrolf_table_next_key(
+    t: &[u64; 1072],
+    source: u8,
+    destination: u8,
+    k: u8,
+) -> Held
+    ensures { λ r. ⌜ r ≡ heldOf (nextKey (now (t .entry)) (keyOf source destination k)) ⌝ }
+{
+    key_in_c(table::next_key(t, source, destination, k))
+}
+
+// ---- the listing of a log
+
+// Nothing read yet.
+#[no_mangle]
+pub extern "C" fn yendrolf_log_start() -> Log
+    ensures { λ r. ⌜ tallyIn r ≡ started ⌝ }
+{
+    log_of(listing::start())
+}
+
+// Takes the next chunk of a log.
+#[no_mangle]
+pub extern "C" fn yendrolf_table_feed(t: &mut [u64; 1072], log: Log, chunk: &[u8]) -> Log
+    ensures { λ r. ⌜ fed (now (t .exit)) (tallyIn r) ≡ feeding (now (t .entry)) (tallyIn log) (now (chunk .entry)) ⌝ }
+{
+    log_of(listing::feed(t, tally_of(log), chunk))
+}
+
+// Lays the listing over the start of `text`.
+#[no_mangle]
+pub extern "C" fn yendrolf_table_finish(t: &[u64; 1072], log: Log, text: &mut [u8]) -> Told
+    ensures { λ r. ⌜ outcome (saidTo r) (now (text .exit)) ≡ finished (now (t .entry)) (tallyIn log) (now (text .entry)) ⌝ }
+{
+    in_c(listing::finish(t, tally_of(log), text))
+}
+
+// ---- the filters
+
+// Makes all filters fresh.
+#[no_mangle]
+pub extern "C" fn yendrolf_filters_fresh(w: &mut [u32; 408])
+    ensures { λ r. ⌜ now (w .exit) ≡ freshWords ⌝ }
+{
+    ports::fresh(w)
+}
+
+// Adds a PGN to the list of one pair.
+#[no_mangle]
+pub extern "C" fn yendrolf_filters_add(w: &mut [u32; 408], from: u8, to: u8, pgn: u32) -> Told
+    ensures { λ r. ⌜ outcome (saidTo r) (now (w .exit)) ≡ commanded (now (w .entry)) from to (Add pgn) ⌝ }
+{
+    in_c(ports::add(w, from, to, pgn))
+}
+
+// Deletes a PGN from the list of one pair.
+#[no_mangle]
+pub extern "C" fn yendrolf_filters_delete(w: &mut [u32; 408], from: u8, to: u8, pgn: u32) -> Told
+    ensures { λ r. ⌜ outcome (saidTo r) (now (w .exit)) ≡ commanded (now (w .entry)) from to (Delete pgn) ⌝ }
+{
+    in_c(ports::delete(w, from, to, pgn))
+}
+
+// Empties the list of one pair; its mode is kept.
+#[no_mangle]
+pub extern "C" fn yendrolf_filters_clear(w: &mut [u32; 408], from: u8, to: u8) -> Told
+    ensures { λ r. ⌜ outcome (saidTo r) (now (w .exit)) ≡ commanded (now (w .entry)) from to Clear ⌝ }
+{
+    in_c(ports::clear(w, from, to))
+}
+
+// Sets the mode of one pair.
+#[no_mangle]
+pub extern "C" fn yendrolf_filters_set_mode(w: &mut [u32; 408], from: u8, to: u8, mode: u8) -> Told
+    ensures { λ r. ⌜ outcome (saidTo r) (now (w .exit)) ≡ commanded (now (w .entry)) from to (SetMode mode) ⌝ }
+{
+    in_c(ports::set_mode(w, from, to, mode))
+}
+
+// Decides on a frame from one port to another by its identifier.
+#[no_mangle]
+pub extern "C" fn yendrolf_filters_decide(w: &[u32; 408], from: u8, to: u8, id: u32) -> Told
+    ensures { λ r. ⌜ saidTo r ≡ decided (now (w .entry)) from to id ⌝ }
+{
+    in_c(ports::decide(w, from, to, id))
+}

@@ -1,0 +1,65 @@
+/* A header's box in C, from its start to a day's work: it learns document 01's case A from two frames, judges it, packs and reads a payload, finds a
+   parameter, keeps an engine's frames off one port, and forgets. examples/run builds it, runs it, and compares what it prints with examples/hitch.txt. */
+#include <stdio.h>
+
+#include "../include/yendrolf.h"
+
+static yendrolf_box box;   /* all that the box holds; it may as well be static memory of a small controller */
+
+static void say(const char *what, yendrolf_told told)
+{
+    printf("%-34s answer %u, detail %u", what, told.number, told.detail);
+    if (told.judgement)
+        printf(", judgement %u at %u", told.judgement, told.position);
+    printf("\n");
+}
+
+int main(void)
+{
+    yendrolf_start(&box);
+
+    /* From 38 to 39: message 1 has two parameters, SPN 1517 from bit 1 on (002 counts from 1) and SPN 1519 from bit 9 on. */
+    static const uint8_t first[8] = { 0x00, 0xb1, 0x00, 0xed, 0x05, 0x01, 0x02, 1 };
+    static const uint8_t second[8] = { 0x00, 0xb1, 0x00, 0xef, 0x05, 0x02, 0x02, 9 };
+    static const uint8_t other[8] = { 0x00, 0xb1, 0x00, 0xef, 0x05, 0x02, 0x02, 10 };
+    say("learn position 1", yendrolf_learn(&box, 0x18b02726, 8, first));
+    say("judge: position 2 is missing", yendrolf_judge(&box, 38, 39, 1));
+    say("learn position 2", yendrolf_learn(&box, 0x18b02726, 8, second));
+    say("judge", yendrolf_judge(&box, 38, 39, 1));
+    say("learn from an engine's frame", yendrolf_learn(&box, 0x18fee300, 8, first));
+
+    uint32_t numbers[YENDROLF_MOST_NUMBERS] = { 40, 1 };
+    uint8_t payload[YENDROLF_MOST_BYTES];
+    yendrolf_told packed = yendrolf_pack(&box, 38, 39, 1, numbers, 2, payload, sizeof payload);
+    say("pack 40 and 1", packed);
+    printf("%-34s", "the payload");
+    for (uint32_t i = 0; i < packed.detail; i++)
+        printf(" %02X", payload[i]);
+    printf("\n");
+    numbers[1] = 4;
+    say("pack 40 and 4: 1519 has 2 bits", yendrolf_pack(&box, 38, 39, 1, numbers, 2, payload, sizeof payload));
+    numbers[0] = numbers[1] = 0;
+    say("read", yendrolf_read(&box, 38, 39, 1, payload, packed.detail, numbers, YENDROLF_MOST_NUMBERS));
+    printf("%-34s %u and %u\n", "the numbers", numbers[0], numbers[1]);
+    yendrolf_found found = yendrolf_find(&box, 38, 39, 1, 1519);
+    say("find 1519", found.told);
+    printf("%-34s position %u, start %u, width %u\n", "it stands at", found.position, found.start, found.width);
+
+    say("learn another start for position 2", yendrolf_learn(&box, 0x18b02726, 8, other));
+    say("judge: in conflict", yendrolf_judge(&box, 38, 39, 1));
+    say("pack", yendrolf_pack(&box, 38, 39, 1, numbers, 2, payload, sizeof payload));
+    for (yendrolf_key key = yendrolf_first_key(&box); key.held; key = yendrolf_next_key(&box, key.source, key.destination, key.k))
+        printf("%-34s %u %u %u\n", "held", key.source, key.destination, key.k);
+    say("forget", yendrolf_forget(&box, 38, 39, 1));
+    say("judge: not held", yendrolf_judge(&box, 38, 39, 1));
+
+    say("keep 65251 from port 1 off port 2", yendrolf_add(&box, 1, 2, 65251));
+    say("does 18FEE300h pass from 1 to 2?", yendrolf_decide(&box, 1, 2, 0x18fee300));
+    say("does 18FEE300h pass from 2 to 1?", yendrolf_decide(&box, 2, 1, 0x18fee300));
+    say("set mode 1 while one is listed", yendrolf_set_mode(&box, 1, 2, 1));
+    say("clear", yendrolf_clear(&box, 1, 2));
+    say("set mode 1", yendrolf_set_mode(&box, 1, 2, 1));
+    say("does 18FEE300h pass from 1 to 2?", yendrolf_decide(&box, 1, 2, 0x18fee300));
+    say("add to port 15", yendrolf_add(&box, 1, 15, 65251));
+    return 0;
+}

@@ -1,0 +1,788 @@
+/* compare CALLS SEED: makes CALLS calls of the Rattle library (include/yendrolf.h) and of plain.c on the same inputs, and compares every answer, every
+   buffer, and what the box means afterwards. The inputs come from SEED alone: few keys, SPNs, starts and PGNs, so that conflicts, full tables, usable
+   maps and every answer are frequent; the counts at the end show it. At the first difference it prints the seed and the call, and ends with 1. */
+#include <inttypes.h>
+#include <stdio.h>
+#include <stdlib.h>
+#include <string.h>
+
+#include "../../include/yendrolf.h"
+#include "plain.h"
+
+/* ---- numbers from the seed */
+
+static uint64_t seed_now;
+
+static uint32_t any(void)
+{
+    uint64_t x = seed_now += 0x9e3779b97f4a7c15u;
+    x = (x ^ (x >> 30)) * 0xbf58476d1ce4e5b9u;
+    x = (x ^ (x >> 27)) * 0x94d049bb133111ebu;
+    return (uint32_t)(x >> 32);
+}
+
+static unsigned below(unsigned n)
+{
+    return (unsigned)((uint64_t)any() * n >> 32);
+}
+
+static int one_in(unsigned n)
+{
+    return below(n) == 0;
+}
+
+#define PICK(list) ((list)[below(sizeof(list) / sizeof((list)[0]))])
+
+/* ---- what is compared */
+
+static yendrolf_box box;              /* the library's */
+static struct plain_box plain;        /* the second implementation's */
+static yendrolf_box before;           /* the library's before the call */
+
+static uint64_t seed, calls, checks;
+
+enum call { LEARN, FORGET, JUDGE, PACK, READ, FIND, KEYS, ADD, DELETE, CLEAR, MODE, DECIDE, LIST, KINDS };
+static const char *const call_names[KINDS] = { "learn", "forget", "judge", "pack", "read", "find", "next key", "add", "delete", "clear", "set mode",
+    "decide", "listing" };
+static uint64_t answers[KINDS][21], kinds[KINDS];
+static uint64_t judgements[2][9];     /* of judging, and of answer 12 */
+static uint64_t pass_or_block[2], longest, most_numbers;
+
+static char told_call[512];           /* the call under way, for a report */
+
+static void differ(const char *what)
+{
+    printf("DIFFERENT: %s\n  seed %" PRIu64 ", call %" PRIu64 ": %s\n", what, seed, calls, told_call);
+    exit(1);
+}
+
+static void differ_answers(yendrolf_told a, struct plain_answer b)
+{
+    printf("library %u %u %u %u, plain %u %u %u %u\n", a.number, a.detail, a.judgement, a.position, b.number, b.detail, b.judgement, b.position);
+    differ("the answer");
+}
+
+/* One call: its answers must be the same, and its effect on the words the one that its answer has. */
+static void same(enum call kind, yendrolf_told a, struct plain_answer b)
+{
+    if (a.number != b.number || a.detail != b.detail || a.judgement != b.judgement || a.position != b.position)
+        differ_answers(a, b);
+    calls++;
+    kinds[kind]++;
+    if (b.number > 20 || b.judgement > 8)
+        differ("no answer of document 01");
+    answers[kind][b.number]++;
+    if (kind == JUDGE && b.number == 0)
+        judgements[0][b.judgement]++;
+    if (b.number == 12)
+        judgements[1][b.judgement]++;
+}
+
+/* "None": every word holds what it held. */
+static void unchanged(void)
+{
+    if (memcmp(&box, &before, sizeof box) != 0)
+        differ("a call that changes nothing changed the box");
+}
+
+/* Answer 10: of all words at most one, the mark of its key, is another. */
+static void one_word_at_most(void)
+{
+    unsigned others = 0;
+    for (unsigned i = 0; i < YENDROLF_TABLE_WORDS; i++)
+        others += box.table[i] != before.table[i];
+    if (others > 1 || memcmp(box.filters, before.filters, sizeof box.filters) != 0)
+        differ("answer 10 changed more than a mark");
+}
+
+/* ---- what the messages are made from: for each of a scene's keys a map that its messages mostly come from */
+
+struct intended {
+    uint8_t source, destination, k;
+    unsigned n, proprietary, transport;
+    unsigned spn[65], start[65];
+    unsigned bytes;                   /* L, where the dictionary has all its SPNs */
+};
+
+#define MOST_KEYS 24
+static struct intended scene[MOST_KEYS];
+static unsigned scene_keys;
+static int laid;                      /* the maps of this scene are laid into the words, not taught by frames */
+static uint32_t scene_pgns[40];
+
+/* SPNs of each width that 002 has, and some that the dictionary has not. */
+static const uint32_t known[] = { 1488, 1489, 1490, 1497, 1517, 1519, 3146, 3147, 3148, 3149, 3150, 3151, 3152, 3153, 3154, 3155, 3329, 3330, 3333 };
+static const uint32_t unknown[] = { 0, 1, 521, 1487, 1518, 2848, 3334, 65536, 66053, 524287 };
+
+static uint32_t any_spn(void)
+{
+    if (one_in(200))
+        return PICK(unknown);
+    if (one_in(3))
+        return PICK(known);
+    uint32_t spn;
+    do
+        spn = 1488 + below(3334 - 1488);
+    while (plain_width(spn) == 0);
+    return spn;
+}
+
+static int has_spn(const struct intended *m, unsigned positions, uint32_t spn)
+{
+    for (unsigned p = 1; p <= positions; p++)
+        if (m->spn[p] == spn)
+            return 1;
+    return 0;
+}
+
+static void measure(struct intended *m)
+{
+    unsigned end = 0;
+    for (unsigned p = 1; p <= m->n; p++) {
+        unsigned e = m->start[p] + plain_width(m->spn[p]);
+        if (e > end)
+            end = e;
+    }
+    m->bytes = end <= 64 ? 8 : (end + 7) / 8;
+    if (m->bytes > YENDROLF_MOST_BYTES)
+        m->bytes = YENDROLF_MOST_BYTES;
+}
+
+/* A map of at most `most` positions, no start above `last`, that is usable but for a fault that one in three has. */
+static void intend(struct intended *m, unsigned most, unsigned last)
+{
+    unsigned want = one_in(3) ? 1 + below(most) : one_in(2) ? 1 + below(most < 9 ? most : 9) : 1 + below(3), at = one_in(2) ? below(9) : 0;
+    if (one_in(8))
+        at = last > 80 ? last - below(80) : 0;
+    if (one_in(8))
+        want = most;
+    m->n = 0;
+    for (unsigned p = 1; p <= want; p++) {
+        uint32_t spn;
+        do
+            spn = any_spn();
+        while ((has_spn(m, p - 1, spn) || (want > 8 && plain_width(spn) > 8)) && !one_in(300));
+        unsigned gap = one_in(3) ? below(9) : 0;
+        if (last > 250 && one_in(4))
+            gap = below(2 * last / want);
+        if (at + gap > last)
+            break;
+        at += gap;
+        m->n = p;
+        m->spn[p] = spn;
+        m->start[p] = at;
+        at += plain_width(spn) ? plain_width(spn) : 1;
+    }
+    if (m->n == 0) {
+        m->n = 1;
+        m->spn[1] = PICK(known);
+        m->start[1] = last;
+    }
+    m->proprietary = one_in(4);
+    measure(m);
+    m->transport = m->bytes > 8;
+    unsigned p = 1 + below(m->n), q = 1 + below(m->n);
+    switch (below(24)) {
+    case 0:
+        m->spn[p] = PICK(unknown);
+        break;
+    case 1:
+        m->spn[p] = m->spn[q];
+        break;
+    case 2:
+        m->start[p] = p > 1 ? m->start[p - 1] - (m->start[p - 1] > 0 && one_in(2)) : 0;
+        break;
+    case 3:
+        m->start[p] = p > 1 ? m->start[p - 1] + 1 : 1;
+        break;
+    case 4:
+        m->transport = !m->transport;
+        break;
+    case 5:
+        m->start[p] = last - below(3);
+        break;
+    case 6:
+        if (m->n < most)
+            m->n++, m->spn[m->n] = PICK(known), m->start[m->n] = last;
+        break;
+    case 7:
+        if (m->n < most)
+            m->n++, m->spn[m->n] = 1519, m->start[m->n] = 62 + below(3);
+        break;
+    }
+    measure(m);
+}
+
+static void set_scene(unsigned most, unsigned last)
+{
+    static const uint8_t sources[] = { 0, 1, 38, 128, 252, 253 };
+    static const uint8_t destinations[] = { 0, 39, 253, 254, 255 };
+    static const uint8_t ks[] = { 1, 2, 7, 14, 15 };
+    unsigned few = below(3);
+    scene_keys = few == 0 ? 1 + below(4) : few == 1 ? 12 + below(5) : 17 + below(8);
+    for (unsigned i = 0; i < scene_keys; i++) {
+        struct intended *m = &scene[i];
+        m->source = PICK(sources);
+        m->destination = PICK(destinations);
+        m->k = PICK(ks);
+        intend(m, most, last);
+    }
+    for (unsigned i = 0; i < 40; i++) {
+        uint32_t pgn = any() & 0x3ffff;
+        if ((pgn >> 8 & 0xff) < 240)
+            pgn &= 0x3ff00;
+        scene_pgns[i] = one_in(4) ? 45056 + 256 * below(17) : one_in(4) ? 61440 + below(4096) : pgn;
+    }
+}
+
+/* ---- frames */
+
+struct frame {
+    uint32_t identifier;
+    uint8_t length;
+    uint8_t data[8];
+};
+
+/* The frame that says what `m` says of position p; the fields may have any value that their places carry. */
+static struct frame frame_of(const struct intended *m, unsigned p, unsigned first_only)
+{
+    struct frame f;
+    uint32_t pgn = 45056 + 256u * m->k, spn = m->spn[p];
+    f.identifier = below(8) << 26 | 0xb00000 | (uint32_t)m->destination << 8 | m->source;
+    f.length = 8;
+    f.data[0] = (uint8_t)pgn;
+    f.data[1] = (uint8_t)(pgn >> 8);
+    f.data[2] = (uint8_t)(pgn >> 16);
+    f.data[3] = (uint8_t)spn;
+    f.data[4] = (uint8_t)(spn >> 8);
+    f.data[5] = (uint8_t)((spn >> 16 & 7) << 5 | (p & 31));
+    f.data[6] = (uint8_t)(m->proprietary << 7 | m->transport << 6 | first_only << 5 | (m->n & 31));
+    f.data[7] = (uint8_t)(m->start[p] + 1);
+    return f;
+}
+
+/* A frame that mostly teaches a key of the scene, and sometimes is wrong in one way or another. */
+static struct frame any_frame(void)
+{
+    const struct intended *m = &scene[below(scene_keys)];
+    struct frame f;
+    if (one_in(30)) {
+        f.identifier = any() & (one_in(4) ? 0xffffffff : 0x1fffffff);
+        f.length = (uint8_t)(one_in(3) ? below(256) : 8);
+        for (unsigned i = 0; i < 8; i++)
+            f.data[i] = (uint8_t)any();
+        return f;
+    }
+    unsigned p = 1 + below(m->n);
+    f = frame_of(m, p, p == 1 && one_in(3));
+    if (!one_in(6))
+        return f;
+    static const uint8_t starts[] = { 0, 0, 0, 0, 1, 250, 251, 251, 252, 253, 254, 255 };
+    switch (below(22)) {
+    case 0:
+        f.identifier |= 1u << (29 + below(3));
+        break;
+    case 1:
+        f.identifier ^= 1u << (16 + below(10));
+        break;
+    case 2:
+        f.length = (uint8_t)below(11);
+        break;
+    case 3:
+        f.identifier |= 0xfe | below(2);
+        break;
+    case 4:
+        f.data[0] = (uint8_t)(1u << below(8));
+        break;
+    case 5:
+        f.data[1] = (uint8_t)(one_in(2) ? 176 : 192);
+        break;
+    case 6:
+        f.data[2] = (uint8_t)(1u << below(8));
+        break;
+    case 7:
+        f.data[6] &= 0xe0;
+        break;
+    case 8:
+        f.data[5] &= 0xe0;
+        break;
+    case 9:
+        f.data[5] = (uint8_t)((f.data[5] & 0xe0) | ((m->n + 1) & 31));
+        break;
+    case 10:
+        f.data[6] |= 0x20;
+        break;
+    case 11:
+    case 12:
+        f.data[7] = PICK(starts);
+        break;
+    case 13:
+        if (one_in(6))
+            f.data[6] ^= 0x80;
+        break;
+    case 14:
+        if (one_in(6))
+            f.data[6] ^= 0x40;
+        break;
+    case 15:
+        if (one_in(6))
+            f.data[3] ^= 1;
+        break;
+    case 16:
+        if (one_in(6))
+            f.data[5] ^= 0x20;
+        break;
+    case 17:
+        if (one_in(6))
+            f.data[6] = (uint8_t)((f.data[6] & 0xe0) | ((m->n + 1) & 31));
+        break;
+    default:
+        f.identifier = below(8) << 26 | scene_pgns[below(40)] << 8 | below(256);
+        break;
+    }
+    return f;
+}
+
+/* ---- the calls */
+
+/* A key of the scene, or now and then another. */
+static struct intended any_key(void)
+{
+    struct intended m = scene[below(scene_keys)];
+    if (one_in(24)) {
+        if (one_in(2))
+            m.k = (uint8_t)below(256);
+        else if (one_in(2))
+            m.source ^= 1;
+        else
+            m.destination ^= 128;
+    }
+    return m;
+}
+
+static void learn(struct frame f)
+{
+    snprintf(told_call, sizeof told_call, "learn %08" PRIx32 " %u  %02x %02x %02x %02x %02x %02x %02x %02x", f.identifier, f.length, f.data[0], f.data[1],
+        f.data[2], f.data[3], f.data[4], f.data[5], f.data[6], f.data[7]);
+    yendrolf_told a = yendrolf_learn(&box, f.identifier, f.length, f.data);
+    same(LEARN, a, plain_learn(&plain, f.identifier, f.length, f.data));
+    if (a.number == 10)
+        one_word_at_most();
+    else if (a.number != 0)
+        unchanged();
+}
+
+static void forget(struct intended m)
+{
+    snprintf(told_call, sizeof told_call, "forget %u %u %u", m.source, m.destination, m.k);
+    yendrolf_told a = yendrolf_forget(&box, m.source, m.destination, m.k);
+    same(FORGET, a, plain_forget(&plain, m.source, m.destination, m.k));
+    if (a.number != 0)
+        unchanged();
+}
+
+static void judge(struct intended m)
+{
+    snprintf(told_call, sizeof told_call, "judge %u %u %u", m.source, m.destination, m.k);
+    same(JUDGE, yendrolf_judge(&box, m.source, m.destination, m.k), plain_judge(&plain, m.source, m.destination, m.k));
+    unchanged();
+}
+
+#define BUFFER (YENDROLF_MOST_BYTES + 40)
+#define PLACES 80
+
+static void fill_bytes(uint8_t *a, uint8_t *b, size_t size)
+{
+    for (size_t i = 0; i < size; i++)
+        a[i] = (uint8_t)any();
+    memcpy(b, a, size);
+}
+
+static void read_back(struct intended m, const uint8_t *payload, size_t size, const uint32_t *packed)
+{
+    static uint32_t one[PLACES], two[PLACES];
+    for (unsigned i = 0; i < PLACES; i++)
+        one[i] = two[i] = any();
+    unsigned room = one_in(2) ? m.n : one_in(8) ? m.n - 1 : one_in(8) ? below(4) : m.n + below(PLACES - 64);
+    snprintf(told_call, sizeof told_call, "read %u %u %u, %zu bytes, room for %u", m.source, m.destination, m.k, size, room);
+    yendrolf_told a = yendrolf_read(&box, m.source, m.destination, m.k, payload, size, one, room);
+    same(READ, a, plain_read(&plain, m.source, m.destination, m.k, payload, size, two, room));
+    unchanged();
+    if (memcmp(one, two, sizeof one) != 0)
+        differ("the numbers");
+    if (a.number == 0 && packed && memcmp(one, packed, a.detail * sizeof one[0]) != 0)
+        differ("what was packed is not what is read");
+}
+
+static void pack(struct intended m)
+{
+    static uint8_t one[BUFFER], two[BUFFER];
+    uint32_t numbers[PLACES];
+    unsigned count = one_in(12) ? m.n + 1 : one_in(12) ? m.n - 1 : one_in(30) ? below(PLACES) : m.n;
+    for (unsigned i = 0; i < PLACES; i++) {
+        unsigned width = i < m.n ? plain_width(m.spn[i + 1]) : 8;
+        numbers[i] = width >= 32 ? any() : any() & ((1u << width) - 1);
+        if (one_in(8))
+            numbers[i] = width >= 32 ? 0xffffffff : (1u << width) - 1;
+    }
+    if (one_in(6)) {
+        unsigned i = below(m.n), width = plain_width(m.spn[i + 1]);
+        numbers[i] = one_in(2) ? any() : width >= 32 ? 0 : 1u << width;
+    }
+    size_t size = one_in(3) ? m.bytes : one_in(6) ? m.bytes - 1 : one_in(6) ? below(12) : m.bytes + below(40);
+    fill_bytes(one, two, size + 16 < BUFFER ? size + 16 : BUFFER);
+    snprintf(told_call, sizeof told_call, "pack %u %u %u, %u numbers from %u, %zu bytes", m.source, m.destination, m.k, count, numbers[0], size);
+    yendrolf_told a = yendrolf_pack(&box, m.source, m.destination, m.k, numbers, count, one, size);
+    same(PACK, a, plain_pack(&plain, m.source, m.destination, m.k, numbers, count, two, size));
+    unchanged();
+    if (memcmp(one, two, size + 16 < BUFFER ? size + 16 : BUFFER) != 0)
+        differ("the payload");
+    if (a.number == 0) {
+        if (a.detail > longest)
+            longest = a.detail;
+        if (count > most_numbers)
+            most_numbers = count;
+        read_back(m, one, a.detail, numbers);
+    }
+}
+
+static void read_any(struct intended m)
+{
+    static uint8_t payload[BUFFER], spare[BUFFER];
+    size_t size = one_in(8) ? m.bytes + 1 : one_in(8) ? m.bytes - 1 : one_in(8) ? below(40) : m.bytes;
+    fill_bytes(payload, spare, size);
+    read_back(m, payload, size, NULL);
+}
+
+static void find(struct intended m)
+{
+    uint32_t spn = one_in(3) ? any_spn() : one_in(20) ? any() : m.spn[1 + below(m.n)];
+    snprintf(told_call, sizeof told_call, "find %u %u %u, SPN %" PRIu32, m.source, m.destination, m.k, spn);
+    yendrolf_found a = yendrolf_find(&box, m.source, m.destination, m.k, spn);
+    struct plain_found b = plain_find(&plain, m.source, m.destination, m.k, spn);
+    same(FIND, a.told, b.answer);
+    unchanged();
+    if (a.position != b.position || a.start != b.start || a.width != b.width)
+        differ("what was found");
+}
+
+static int same_key(yendrolf_key a, int held, unsigned source, unsigned destination, unsigned k)
+{
+    if (!held)
+        return a.held == 0 && a.source == 0 && a.destination == 0 && a.k == 0;
+    return a.held == 1 && a.source == source && a.destination == destination && a.k == k;
+}
+
+/* The lowest key above one, which need not be held. */
+static void next_key(struct intended m)
+{
+    snprintf(told_call, sizeof told_call, "next key after %u %u %u", m.source, m.destination, m.k);
+    yendrolf_key a = yendrolf_next_key(&box, m.source, m.destination, m.k);
+    unsigned source = m.source, destination = m.destination, k = m.k + 1u;   /* k 256 stands before the next destination's 0 */
+    int held = plain_key_from(&plain, &source, &destination, &k);
+    calls++;
+    kinds[KEYS]++;
+    unchanged();
+    if (!same_key(a, held, source, destination, k))
+        differ("the next key");
+}
+
+/* What the whole table means: its keys in order, and each key's judgement; and the scene's keys, held or not. */
+static void check_table(void)
+{
+    memcpy(&before, &box, sizeof box);
+    unsigned source = 0, destination = 0, k = 0;
+    yendrolf_key a = yendrolf_first_key(&box);
+    for (;;) {
+        int held = plain_key_from(&plain, &source, &destination, &k);
+        snprintf(told_call, sizeof told_call, "keys in order, at %u %u %u", source, destination, k);
+        calls++;
+        kinds[KEYS]++;
+        if (!same_key(a, held, source, destination, k))
+            differ("the keys in order");
+        if (!held)
+            break;
+        struct intended m = { (uint8_t)source, (uint8_t)destination, (uint8_t)k, 0, 0, 0, { 0 }, { 0 }, 0 };
+        judge(m);
+        a = yendrolf_next_key(&box, (uint8_t)source, (uint8_t)destination, (uint8_t)k);
+        k++;
+    }
+    for (unsigned i = 0; i < scene_keys; i++) {
+        judge(scene[i]);
+        find(scene[i]);
+    }
+    checks++;
+}
+
+static uint8_t any_port(void)
+{
+    static const uint8_t strange[] = { 0, 5, 6, 15, 16, 255 };
+    return one_in(20) ? PICK(strange) : (uint8_t)(1 + below(4));
+}
+
+static uint32_t any_pgn(void)
+{
+    if (one_in(12))
+        return one_in(2) ? any() : scene_pgns[below(40)] | 1u << below(20);
+    return scene_pgns[below(40)];
+}
+
+static void command(enum call kind)
+{
+    uint8_t from = any_port(), to = any_port(), mode = (uint8_t)(one_in(10) ? below(256) : below(2));
+    uint32_t pgn = any_pgn(), identifier = below(8) << 26 | (any_pgn() & 0x3ffff) << 8 | below(256);
+    if (one_in(2))   /* few pairs, so that lists fill */
+        from = 1, to = 2;
+    if (one_in(20))
+        identifier = any();
+    yendrolf_told a;
+    struct plain_answer b;
+    snprintf(told_call, sizeof told_call, "%s %u %u, PGN %" PRIu32 ", mode %u, identifier %08" PRIx32, call_names[kind], from, to, pgn, mode, identifier);
+    switch (kind) {
+    case ADD:
+        a = yendrolf_add(&box, from, to, pgn);
+        b = plain_add(&plain, from, to, pgn);
+        break;
+    case DELETE:
+        a = yendrolf_delete(&box, from, to, pgn);
+        b = plain_delete(&plain, from, to, pgn);
+        break;
+    case CLEAR:
+        a = yendrolf_clear(&box, from, to);
+        b = plain_clear(&plain, from, to);
+        break;
+    case MODE:
+        a = yendrolf_set_mode(&box, from, to, mode);
+        b = plain_set_mode(&plain, from, to, mode);
+        break;
+    default:
+        a = yendrolf_decide(&box, from, to, identifier);
+        b = plain_decide(&plain, from, to, identifier);
+        if (b.number == 0)
+            pass_or_block[b.detail]++;
+        break;
+    }
+    same(kind, a, b);
+    if (kind == DECIDE || a.number != 0)
+        unchanged();
+    if (memcmp(box.table, before.table, sizeof box.table) != 0)
+        differ("a filter's command changed the table");
+}
+
+/* What the filters mean: for each pair, which of the scene's PGNs pass. */
+static void check_filters(void)
+{
+    memcpy(&before, &box, sizeof box);
+    for (uint8_t from = 1; from <= 4; from++)
+        for (uint8_t to = 1; to <= 4; to++)
+            for (unsigned i = 0; i < 40; i++) {
+                uint32_t identifier = scene_pgns[i] << 8 | 0x18000000;
+                snprintf(told_call, sizeof told_call, "decide %u %u, identifier %08" PRIx32, from, to, identifier);
+                yendrolf_told a = yendrolf_decide(&box, from, to, identifier);
+                struct plain_answer b = plain_decide(&plain, from, to, identifier);
+                same(DECIDE, a, b);
+                if (b.number == 0)
+                    pass_or_block[b.detail]++;
+            }
+    unchanged();
+    checks++;
+}
+
+/* A log of any frames, fed in chunks of any size, and its listing, laid into a buffer that is long enough or not. */
+static void listing(void)
+{
+    static uint8_t log[13 * 400 + 13], text[600], held[600];
+    static char wanted[1024];
+    static yendrolf_box own;
+    size_t size = 13 * (size_t)below(one_in(3) ? 4 : 400), fed = 0;
+    for (size_t at = 0; at < size; at += 13) {
+        struct frame f = any_frame();
+        for (unsigned i = 0; i < 4; i++)
+            log[at + i] = (uint8_t)(f.identifier >> 8 * i);
+        log[at + 4] = f.length;
+        memcpy(log + at + 5, f.data, 8);
+    }
+    for (unsigned cut = one_in(2) ? below(13) : 0; cut > 0; cut--)
+        log[size++] = (uint8_t)any();
+    size_t length = plain_listing(log, size, wanted, sizeof wanted);
+    unsigned longest_chunk = one_in(3) ? 5 : one_in(2) ? 40 : 6000;
+    yendrolf_empty(&own);
+    yendrolf_log state = yendrolf_start_log();
+    while (fed < size) {
+        size_t chunk = below(longest_chunk);
+        if (chunk > size - fed)
+            chunk = size - fed;
+        state = yendrolf_feed(&own, state, log + fed, chunk);
+        fed += chunk;
+    }
+    fill_bytes(text, held, sizeof text);
+    size_t room = one_in(4) ? length : one_in(4) ? length - 1 : one_in(8) ? below(40) : sizeof text;
+    snprintf(told_call, sizeof told_call, "listing of %zu bytes into %zu:\n%.*s", size, room, (int)length, wanted);
+    struct plain_answer b = { room < length ? 13 : 0, room < length ? 0 : (unsigned)length, 0, 0 };
+    same(LIST, yendrolf_finish(&own, state, text, room), b);
+    if (b.number == 0)
+        memcpy(held, wanted, length);
+    if (memcmp(text, held, sizeof text) != 0)
+        differ("the listing");
+    unchanged();
+}
+
+/* ---- scenes */
+
+/* Maps that no wire can carry, of up to 64 positions with starts up to 14,279, laid into the table's words as crates/table/specs/Layout.antt has
+   them: state, key, n and flags, then a cell of SPN and start for each position. The other side learns the same messages. */
+static void lay_maps(void)
+{
+    for (unsigned i = 0; i < scene_keys && plain.held < 16; i++) {
+        struct intended *m = &scene[i];
+        for (unsigned j = 0; j < i; j++)
+            if (scene[j].source == m->source && scene[j].destination == m->destination && scene[j].k == m->k)
+                m = NULL, j = i;
+        if (!m)
+            continue;
+        uint64_t *row = &box.table[67 * plain.held];
+        int conflict = one_in(30), gap = one_in(12) ? (int)(1 + below(m->n)) : 0;
+        if (gap && m->n == 1)
+            gap = 0;
+        row[0] = conflict ? 2 : 1;
+        row[1] = (uint64_t)m->source * 65536 + (uint64_t)m->destination * 256 + m->k;
+        row[2] = m->n + 256 * m->proprietary + 512 * m->transport;
+        for (unsigned p = 1; p <= m->n; p++) {
+            if ((int)p == gap)
+                continue;
+            row[2 + p] = 1 + m->spn[p] + ((uint64_t)m->start[p] << 32);
+            struct plain_message one = { m->source, m->destination, m->k, m->n, m->proprietary, m->transport, p, m->spn[p], m->start[p] };
+            plain_learn_message(&plain, one);
+            if (conflict && p == m->n) {
+                one.spn ^= 1;
+                plain_learn_message(&plain, one);
+            }
+        }
+        if (conflict && gap == (int)m->n) {
+            struct plain_message one = { m->source, m->destination, m->k, m->n, m->proprietary, !m->transport, 1, m->spn[1], m->start[1] };
+            plain_learn_message(&plain, one);
+        }
+    }
+}
+
+/* All that a key's map says, its positions in any order. */
+static void teach(const struct intended *m)
+{
+    unsigned order[65];
+    for (unsigned p = 1; p <= m->n; p++) {
+        unsigned q = 1 + below(p);
+        order[p] = order[q];
+        order[q] = p;
+    }
+    for (unsigned p = 1; p <= m->n; p++) {
+        memcpy(&before, &box, sizeof box);
+        learn(frame_of(m, order[p], 0));
+    }
+}
+
+static void one_call(void)
+{
+    memcpy(&before, &box, sizeof box);
+    unsigned what = below(1000);
+    if (what < 360)
+        learn(any_frame());
+    else if (what < 370 && !laid)
+        teach(&scene[below(scene_keys)]);
+    else if (what < 395)
+        forget(any_key());
+    else if (what < 480)
+        judge(any_key());
+    else if (what < 580)
+        pack(any_key());
+    else if (what < 640)
+        read_any(any_key());
+    else if (what < 700)
+        find(any_key());
+    else if (what < 740)
+        next_key(any_key());
+    else if (what < 840)
+        command(ADD);
+    else if (what < 875)
+        command(DELETE);
+    else if (what < 878)
+        command(CLEAR);
+    else if (what < 915)
+        command(MODE);
+    else if (what < 920)
+        listing();
+    else
+        command(DECIDE);
+}
+
+static void play_scene(uint64_t until)
+{
+    laid = one_in(3);
+    set_scene(laid ? 64 : 31, laid ? 14279 : 249);
+    if (laid || one_in(4)) {
+        yendrolf_empty(&box);
+        plain_empty(&plain);
+    }
+    if (one_in(6)) {
+        yendrolf_fresh(&box);
+        plain_fresh(&plain);
+    }
+    if (laid)
+        lay_maps();
+    else
+        for (unsigned i = 0; i < scene_keys; i++)
+            teach(&scene[i]);
+    unsigned length = laid ? 100 + below(200) : 200 + below(2000);
+    for (unsigned i = 0; i < length && calls < until; i++) {
+        one_call();
+        if (i % 512 == 100)
+            check_table();
+        if (i % 1024 == 1000)
+            check_filters();
+    }
+    check_table();
+    if (!one_in(3))   /* the next scene has other keys: most of these go, by the one way there is */
+        for (unsigned i = 0; i < scene_keys; i++) {
+            memcpy(&before, &box, sizeof box);
+            forget(scene[i]);
+        }
+}
+
+static void print_counts(void)
+{
+    printf("\ncalls by kind\n");
+    for (unsigned i = 0; i < KINDS; i++)
+        if (kinds[i])
+            printf("  %-9s %10" PRIu64 "\n", call_names[i], kinds[i]);
+    printf("\nanswers\n");
+    for (unsigned n = 0; n <= 20; n++) {
+        uint64_t all = 0;
+        for (unsigned i = 0; i < KINDS; i++)
+            all += answers[i][n];
+        printf("  %2u %10" PRIu64 " ", n, all);
+        for (unsigned i = 0; i < KINDS; i++)
+            if (answers[i][n])
+                printf(" %s %" PRIu64, call_names[i], answers[i][n]);
+        printf("\n");
+    }
+    printf("\njudgements: number, of judging, of answer 12\n");
+    for (unsigned j = 0; j <= 8; j++)
+        printf("  %u %10" PRIu64 " %10" PRIu64 "\n", j, judgements[0][j], judgements[1][j]);
+    printf("\ndecisions: pass %" PRIu64 ", block %" PRIu64 "\n", pass_or_block[1], pass_or_block[0]);
+    printf("longest payload %" PRIu64 " bytes, most numbers %" PRIu64 "\n", longest, most_numbers);
+    printf("the whole box compared %" PRIu64 " times\n", checks);
+}
+
+int main(int argc, char **argv)
+{
+    uint64_t until = argc > 1 ? strtoull(argv[1], NULL, 10) : 10000000;
+    seed = argc > 2 ? strtoull(argv[2], NULL, 10) : 1;
+    seed_now = seed;
+    memset(&box, 0xa5, sizeof box);   /* a box starts from any bytes */
+    yendrolf_start(&box);
+    plain_start(&plain);
+    while (calls < until)
+        play_scene(until);
+    print_counts();
+    printf("\nseed %" PRIu64 ", %" PRIu64 " calls: no difference\n", seed, calls);
+    return 0;
+}

@@ -1,0 +1,573 @@
+/* Document 01 once more, plainly: see plain.h. Words in quotes are 01's. */
+#include "plain.h"
+
+#include <stdio.h>
+#include <stdlib.h>
+#include <string.h>
+
+/* ---- answers */
+
+static struct plain_answer answer(unsigned number, unsigned detail)
+{
+    struct plain_answer a = { number, detail, 0, 0 };
+    return a;
+}
+
+static struct plain_answer with_judgement(unsigned number, unsigned judgement, unsigned position)
+{
+    struct plain_answer a = { number, 0, judgement, position };
+    return a;
+}
+
+/* ---- "A frame" */
+
+/* The `count` bits of x of which the lowest is worth 2^lowest, one at a time. */
+static unsigned bits(uint32_t x, unsigned lowest, unsigned count)
+{
+    unsigned value = 0;
+    for (unsigned i = count; i > 0; i--)
+        value = value * 2 + x / (1u << (lowest + i - 1)) % 2;
+    return value;
+}
+
+/* "from the top: priority 3, reserved 1, data page 1, PF 8, PS 8, source 8" */
+struct fields {
+    unsigned priority, reserved, page, pf, ps, source;
+};
+
+static struct fields fields_of(uint32_t identifier)
+{
+    struct fields f;
+    f.source = bits(identifier, 0, 8);
+    f.ps = bits(identifier, 8, 8);
+    f.pf = bits(identifier, 16, 8);
+    f.page = bits(identifier, 24, 1);
+    f.reserved = bits(identifier, 25, 1);
+    f.priority = bits(identifier, 26, 3);
+    return f;
+}
+
+/* "The PGN is reserved, data page, PF and PS as one number, with the PS place 0 where PF is below 240" */
+static uint32_t pgn_of(struct fields f)
+{
+    return ((f.reserved * 2 + f.page) * 256 + f.pf) * 256 + (f.pf < 240 ? 0 : f.ps);
+}
+
+/* ---- the dictionary: tests/spns.txt, made from 002 by tests/spns.py */
+
+static const struct {
+    uint32_t spn;
+    unsigned width;
+} dictionary[] = {
+#include "spns.inc"
+};
+
+unsigned plain_width(uint32_t spn)
+{
+    for (size_t i = 0; i < sizeof dictionary / sizeof dictionary[0]; i++)
+        if (dictionary[i].spn == spn)
+            return dictionary[i].width;
+    return 0;
+}
+
+/* ---- sets */
+
+static int same_key(const struct plain_message *m, unsigned source, unsigned destination, unsigned k)
+{
+    return m->source == source && m->destination == destination && m->k == k;
+}
+
+/* "two messages are the same where source, destination and all stored fields agree" */
+static int same_message(const struct plain_message *a, const struct plain_message *b)
+{
+    return same_key(a, b->source, b->destination, b->k) && a->n == b->n && a->proprietary == b->proprietary && a->transport == b->transport
+        && a->position == b->position && a->spn == b->spn && a->start == b->start;
+}
+
+/* "differ in n, the proprietary flag or the transport flag, or have one position and differ in SPN or start" */
+static int contradict(const struct plain_message *a, const struct plain_message *b)
+{
+    if (a->n != b->n || a->proprietary != b->proprietary || a->transport != b->transport)
+        return 1;
+    return a->position == b->position && (a->spn != b->spn || a->start != b->start);
+}
+
+/* "A set with a contradiction is in conflict" */
+static int in_conflict(const struct plain_set *set)
+{
+    for (size_t i = 0; i < set->count; i++)
+        for (size_t j = 0; j < i; j++)
+            if (contradict(&set->messages[i], &set->messages[j]))
+                return 1;
+    return 0;
+}
+
+/* "A key is held while its set isn't empty." The number of its set, or 16. */
+static unsigned set_of(const struct plain_box *box, unsigned source, unsigned destination, unsigned k)
+{
+    for (unsigned i = 0; i < box->held; i++)
+        if (same_key(&box->sets[i].messages[0], source, destination, k))
+            return i;
+    return 16;
+}
+
+static void put_into(struct plain_set *set, struct plain_message m)
+{
+    for (size_t i = 0; i < set->count; i++)
+        if (same_message(&set->messages[i], &m))
+            return;
+    if (set->count == set->room) {
+        set->room = set->room * 2 + 4;
+        set->messages = realloc(set->messages, set->room * sizeof *set->messages);
+        if (!set->messages)
+            abort();
+    }
+    set->messages[set->count++] = m;
+}
+
+void plain_start(struct plain_box *box)
+{
+    memset(box, 0, sizeof *box);
+}
+
+void plain_empty(struct plain_box *box)
+{
+    for (unsigned i = 0; i < 16; i++)
+        box->sets[i].count = 0;
+    box->held = 0;
+}
+
+/* ---- "What one message says", and answers 1 to 10 in order */
+
+struct plain_answer plain_learn_message(struct plain_box *box, struct plain_message m)
+{
+    unsigned i = set_of(box, m.source, m.destination, m.k);
+    if (i == 16) {
+        if (box->held == 16)
+            return answer(9, 0);
+        i = box->held++;
+    }
+    put_into(&box->sets[i], m);
+    return answer(in_conflict(&box->sets[i]) ? 10 : 0, 0);
+}
+
+struct plain_answer plain_learn(struct plain_box *box, uint32_t identifier, unsigned length, const uint8_t data[8])
+{
+    if (identifier > 536870911)
+        return answer(1, 0);
+    struct fields f = fields_of(identifier);
+    if (pgn_of(f) != 45056)
+        return answer(2, 0);
+    if (length != 8)
+        return answer(3, 0);
+    if (f.source == 254 || f.source == 255)
+        return answer(4, 0);
+    /* docs/WIRE.md, "Bit places": bytes are counted from 1 there */
+    uint32_t configured = data[0] + 256 * data[1] + 65536 * data[2];
+    struct plain_message m;
+    m.source = f.source;
+    m.destination = f.ps;   /* "The destination is PS where PF is below 240", and 176 is */
+    m.spn = data[3] + 256 * data[4] + 65536 * bits(data[5], 5, 3);
+    m.position = bits(data[5], 0, 5);
+    m.proprietary = bits(data[6], 7, 1);
+    m.transport = bits(data[6], 6, 1);
+    unsigned first_only = bits(data[6], 5, 1);
+    m.n = bits(data[6], 0, 5);
+    unsigned starting_bit = data[7];
+    m.k = 0;
+    for (unsigned k = 1; k <= 15; k++)
+        if (configured == 45056 + 256 * k)
+            m.k = k;
+    if (m.k == 0)
+        return answer(5, 0);
+    /* answer 6 never arrives: each flag is one bit, and so yes or no */
+    if (m.n < 1 || m.n > 64 || m.position < 1 || m.position > m.n || (first_only && m.position != 1))
+        return answer(7, 0);
+    if (starting_bit < 1 || starting_bit > 250)
+        return answer(8, 0);
+    m.start = starting_bit - 1;
+    return plain_learn_message(box, m);
+}
+
+struct plain_answer plain_forget(struct plain_box *box, unsigned source, unsigned destination, unsigned k)
+{
+    unsigned i = set_of(box, source, destination, k);
+    if (i == 16)
+        return answer(11, 0);
+    /* the last set takes its place: the sets are in no order */
+    struct plain_set forgotten = box->sets[i];
+    box->held--;
+    box->sets[i] = box->sets[box->held];
+    forgotten.count = 0;
+    box->sets[box->held] = forgotten;
+    return answer(0, 0);
+}
+
+/* ---- "A set and its judgement" */
+
+/* A map, by position from 1: of a set without a contradiction. */
+struct map {
+    unsigned n, transport;
+    unsigned there[65];
+    unsigned spn[65], start[65], width[65];
+};
+
+static struct map map_of(const struct plain_set *set)
+{
+    struct map map;
+    memset(&map, 0, sizeof map);
+    map.n = set->messages[0].n;
+    map.transport = set->messages[0].transport;
+    for (size_t i = 0; i < set->count; i++) {
+        const struct plain_message *m = &set->messages[i];
+        map.there[m->position] = 1;
+        map.spn[m->position] = m->spn;
+        map.start[m->position] = m->start;
+        map.width[m->position] = plain_width(m->spn);
+    }
+    return map;
+}
+
+/* "Bit i of the parameter's number stands at payload bit start + i": whether a parameter has a bit at payload bit p. */
+static int has_bit(const struct map *map, unsigned position, unsigned p)
+{
+    return p >= map->start[position] && p < map->start[position] + map->width[position];
+}
+
+/* Whether two parameters share a bit: each bit of the one is asked for in the other. */
+static int share_a_bit(const struct map *map, unsigned one, unsigned other)
+{
+    for (unsigned i = 0; i < map->width[one]; i++)
+        if (has_bit(map, other, map->start[one] + i))
+            return 1;
+    return 0;
+}
+
+/* "the larger of 8 and the largest start + width divided by 8, rounded up" */
+static unsigned payload_bytes(const struct map *map)
+{
+    unsigned bytes = 8;
+    for (unsigned p = 1; p <= map->n; p++) {
+        unsigned end = map->start[p] + map->width[p];
+        while (8 * bytes < end)
+            bytes++;
+    }
+    return bytes;
+}
+
+/* "The judgement is the first of these that applies, with its lowest position": the judgement, and its position. */
+static unsigned judgement_of(const struct plain_set *set, unsigned *position)
+{
+    *position = 0;
+    if (in_conflict(set))
+        return 1;
+    struct map map = map_of(set);
+    for (unsigned rule = 2; rule <= 7; rule++) {
+        for (unsigned p = 1; p <= map.n; p++) {
+            int applies = 0;
+            switch (rule) {
+            case 2:
+                applies = !map.there[p];
+                break;
+            case 3:
+                applies = map.width[p] == 0;
+                break;
+            case 4:
+                for (unsigned q = 1; q < p; q++)
+                    applies |= map.spn[q] == map.spn[p];
+                break;
+            case 5:
+                applies = p > 1 && !(map.start[p] > map.start[p - 1]);
+                break;
+            case 6:
+                for (unsigned q = 1; q < p && !applies; q++)
+                    applies = share_a_bit(&map, p, q);
+                break;
+            case 7:
+                applies = map.start[p] + map.width[p] > 14280;
+                break;
+            }
+            if (applies) {
+                *position = p;
+                return rule;
+            }
+        }
+    }
+    if (map.transport ? payload_bytes(&map) == 8 : payload_bytes(&map) > 8)
+        return 8;
+    return 0;
+}
+
+struct plain_answer plain_judge(const struct plain_box *box, unsigned source, unsigned destination, unsigned k)
+{
+    unsigned i = set_of(box, source, destination, k), position;
+    if (i == 16)
+        return answer(11, 0);
+    unsigned judgement = judgement_of(&box->sets[i], &position);
+    return with_judgement(0, judgement, position);
+}
+
+unsigned plain_count(const struct plain_box *box, unsigned source, unsigned destination, unsigned k)
+{
+    unsigned i = set_of(box, source, destination, k);
+    if (i == 16 || in_conflict(&box->sets[i]))
+        return 0;
+    return box->sets[i].messages[0].n;
+}
+
+/* 11, then 12, for pack, read and find: whether the map may be used. */
+static int usable(const struct plain_box *box, unsigned source, unsigned destination, unsigned k, struct map *map, struct plain_answer *refusal)
+{
+    unsigned i = set_of(box, source, destination, k), position;
+    if (i == 16) {
+        *refusal = answer(11, 0);
+        return 0;
+    }
+    unsigned judgement = judgement_of(&box->sets[i], &position);
+    if (judgement != 0) {
+        *refusal = with_judgement(12, judgement, position);
+        return 0;
+    }
+    *map = map_of(&box->sets[i]);
+    return 1;
+}
+
+/* ---- "Payload bits" */
+
+/* "Payload bit p is the bit worth 2^(p mod 8) in byte p / 8 rounded down." */
+static unsigned get_bit(const uint8_t *payload, unsigned p)
+{
+    unsigned worth = 1;
+    for (unsigned i = 0; i < p % 8; i++)
+        worth *= 2;
+    return payload[p / 8] / worth % 2;
+}
+
+static void set_bit(uint8_t *payload, unsigned p, unsigned bit)
+{
+    unsigned worth = 1;
+    for (unsigned i = 0; i < p % 8; i++)
+        worth *= 2;
+    if (get_bit(payload, p) != bit)
+        payload[p / 8] = (uint8_t)(bit ? payload[p / 8] + worth : payload[p / 8] - worth);
+}
+
+struct plain_answer plain_pack(const struct plain_box *box, unsigned source, unsigned destination, unsigned k, const uint32_t *numbers, size_t count,
+    uint8_t *payload, size_t size)
+{
+    struct map map;
+    struct plain_answer refusal;
+    if (!usable(box, source, destination, k, &map, &refusal))
+        return refusal;
+    unsigned bytes = payload_bytes(&map);
+    if (count != map.n || size < bytes)
+        return answer(13, 0);
+    for (unsigned p = 1; p <= map.n; p++) {
+        uint64_t first_too_large = 1;
+        for (unsigned i = 0; i < map.width[p]; i++)
+            first_too_large *= 2;
+        if (numbers[p - 1] >= first_too_large)
+            return answer(14, p);
+    }
+    for (unsigned b = 0; b < 8 * bytes; b++) {
+        unsigned bit = 1;   /* "All other bits of the L bytes are 1" */
+        for (unsigned p = 1; p <= map.n; p++)
+            if (has_bit(&map, p, b))
+                bit = bits(numbers[p - 1], b - map.start[p], 1);
+        set_bit(payload, b, bit);
+    }
+    return answer(0, bytes);
+}
+
+struct plain_answer plain_read(const struct plain_box *box, unsigned source, unsigned destination, unsigned k, const uint8_t *payload, size_t size,
+    uint32_t *numbers, size_t room)
+{
+    struct map map;
+    struct plain_answer refusal;
+    if (!usable(box, source, destination, k, &map, &refusal))
+        return refusal;
+    if (size != payload_bytes(&map) || room < map.n)
+        return answer(13, 0);
+    for (unsigned p = 1; p <= map.n; p++) {
+        uint32_t value = 0, worth = 1;
+        for (unsigned i = 0; i < map.width[p]; i++) {
+            value += get_bit(payload, map.start[p] + i) * worth;
+            worth *= 2;
+        }
+        numbers[p - 1] = value;
+    }
+    return answer(0, map.n);
+}
+
+struct plain_found plain_find(const struct plain_box *box, unsigned source, unsigned destination, unsigned k, uint32_t spn)
+{
+    struct map map;
+    struct plain_found found;
+    memset(&found, 0, sizeof found);
+    if (!usable(box, source, destination, k, &map, &found.answer))
+        return found;
+    for (unsigned p = 1; p <= map.n; p++) {
+        if (map.spn[p] == spn) {
+            found.answer = answer(0, 0);
+            found.position = p;
+            found.start = map.start[p];
+            found.width = map.width[p];
+            return found;
+        }
+    }
+    found.answer = answer(18, 0);
+    return found;
+}
+
+/* ---- the held keys in order */
+
+/* "rising by source, destination, k" */
+static int below(unsigned source1, unsigned destination1, unsigned k1, unsigned source2, unsigned destination2, unsigned k2)
+{
+    if (source1 != source2)
+        return source1 < source2;
+    if (destination1 != destination2)
+        return destination1 < destination2;
+    return k1 < k2;
+}
+
+int plain_key_from(const struct plain_box *box, unsigned *source, unsigned *destination, unsigned *k)
+{
+    const struct plain_message *lowest = NULL;
+    for (unsigned i = 0; i < box->held; i++) {
+        const struct plain_message *m = &box->sets[i].messages[0];
+        if (below(m->source, m->destination, m->k, *source, *destination, *k))
+            continue;
+        if (!lowest || below(m->source, m->destination, m->k, lowest->source, lowest->destination, lowest->k))
+            lowest = m;
+    }
+    if (!lowest)
+        return 0;
+    *source = lowest->source;
+    *destination = lowest->destination;
+    *k = lowest->k;
+    return 1;
+}
+
+/* ---- "Port pairs" */
+
+void plain_fresh(struct plain_box *box)
+{
+    memset(box->pairs, 0, sizeof box->pairs);
+}
+
+/* "not two different ports, each 1..4" */
+static int no_pair(unsigned from, unsigned to)
+{
+    return from < 1 || from > 4 || to < 1 || to > 4 || from == to;
+}
+
+/* "PGN above 262,143, or PF below 240 with a low byte other than 0" */
+static int ill_formed(uint32_t pgn)
+{
+    return pgn > 262143 || (bits(pgn, 8, 8) < 240 && bits(pgn, 0, 8) != 0);
+}
+
+/* The place of a PGN in a list, or how many it holds. */
+static unsigned place_of(const struct plain_pair *pair, uint32_t pgn)
+{
+    unsigned i = 0;
+    while (i < pair->count && pair->pgns[i] != pgn)
+        i++;
+    return i;
+}
+
+struct plain_answer plain_add(struct plain_box *box, unsigned from, unsigned to, uint32_t pgn)
+{
+    if (no_pair(from, to))
+        return answer(15, 0);
+    if (ill_formed(pgn))
+        return answer(17, 0);
+    struct plain_pair *pair = &box->pairs[from][to];
+    if (place_of(pair, pgn) < pair->count)
+        return answer(0, 0);
+    if (pair->count == 32)
+        return answer(16, 0);
+    pair->pgns[pair->count++] = pgn;
+    return answer(0, 0);
+}
+
+struct plain_answer plain_delete(struct plain_box *box, unsigned from, unsigned to, uint32_t pgn)
+{
+    if (no_pair(from, to))
+        return answer(15, 0);
+    if (ill_formed(pgn))
+        return answer(17, 0);
+    struct plain_pair *pair = &box->pairs[from][to];
+    unsigned i = place_of(pair, pgn);
+    if (i == pair->count)
+        return answer(18, 0);
+    for (; i + 1 < pair->count; i++)
+        pair->pgns[i] = pair->pgns[i + 1];
+    pair->count--;
+    return answer(0, 0);
+}
+
+struct plain_answer plain_clear(struct plain_box *box, unsigned from, unsigned to)
+{
+    if (no_pair(from, to))
+        return answer(15, 0);
+    box->pairs[from][to].count = 0;
+    return answer(0, 0);
+}
+
+struct plain_answer plain_set_mode(struct plain_box *box, unsigned from, unsigned to, unsigned mode)
+{
+    if (no_pair(from, to))
+        return answer(15, 0);
+    if (mode != 0 && mode != 1)
+        return answer(19, 0);
+    struct plain_pair *pair = &box->pairs[from][to];
+    if (mode != pair->mode && pair->count > 0)
+        return answer(20, 0);
+    pair->mode = mode;
+    return answer(0, 0);
+}
+
+struct plain_answer plain_decide(const struct plain_box *box, unsigned from, unsigned to, uint32_t identifier)
+{
+    if (no_pair(from, to))
+        return answer(15, 0);
+    if (identifier > 536870911)
+        return answer(1, 0);
+    const struct plain_pair *pair = &box->pairs[from][to];
+    int listed = place_of(pair, pgn_of(fields_of(identifier))) < pair->count;
+    /* "Mode 0 passes all but the listed, mode 1 blocks all but the listed" */
+    return answer(0, pair->mode == 0 ? !listed : listed);
+}
+
+/* ---- "The listing program" */
+
+size_t plain_listing(const uint8_t *log, size_t size, char *text, size_t room)
+{
+    static struct plain_box box;
+    plain_empty(&box);
+    unsigned long long records = 0, refused = 0, other = 0;
+    size_t at = 0;
+    for (; at + 13 <= size; at += 13) {
+        uint32_t identifier = log[at] + 256u * log[at + 1] + 65536u * log[at + 2] + 16777216u * log[at + 3];
+        unsigned number = plain_learn(&box, identifier, log[at + 4], log + at + 5).number;
+        records++;
+        if (number == 2)
+            other++;
+        if (number == 1 || (number >= 3 && number <= 9))
+            refused++;
+    }
+    size_t used = 0;
+    used += (size_t)snprintf(text + used, room - used, "SRC DST MSG N JUDGED AT\n");
+    unsigned source = 0, destination = 0, k = 0;
+    while (used < room && plain_key_from(&box, &source, &destination, &k)) {
+        struct plain_answer judged = plain_judge(&box, source, destination, k);
+        used += (size_t)snprintf(text + used, room - used, "%u %u %u %u %u %u\n", source, destination, k, plain_count(&box, source, destination, k),
+            judged.judgement, judged.position);
+        k++;   /* the three numbers need be no key that can be held */
+    }
+    if (used < room)
+        used += (size_t)snprintf(text + used, room - used, "RECORDS %llu REFUSED %llu OTHER %llu LEFT %zu\n", records, refused, other, size - at);
+    return used < room ? used : 0;
+}

@@ -1,0 +1,86 @@
+/* A second implementation of document 01, in C, written from 01, docs/WIRE.md and docs/DECISIONS.md alone and as plainly as possible: a key is the
+   list of its messages, a payload is handled one bit at a time, a port pair is a mode and a list. It shares nothing with the Rattle code, is slow
+   where that is plainer, and is nothing but a thing to compare with (tests/compare/run). */
+#ifndef PLAIN_H
+#define PLAIN_H
+
+#include <stddef.h>
+#include <stdint.h>
+
+/* "Every answer carries a number and a detail." Where 01's detail is a judgement and its position, they stand here and the detail is 0. */
+struct plain_answer {
+    unsigned number;
+    unsigned detail;
+    unsigned judgement;
+    unsigned position;
+};
+
+/* "Finding gives position, start and width": all 0 on a refusal. */
+struct plain_found {
+    struct plain_answer answer;
+    unsigned position;
+    unsigned start;
+    unsigned width;
+};
+
+/* What one message says and is kept (01, "What one message says"). The start counts from 0, the position from 1. */
+struct plain_message {
+    unsigned source, destination, k;
+    unsigned n, proprietary, transport;
+    unsigned position, spn, start;
+};
+
+/* "A key's set is the collection of different well-formed messages naming it since its last forget." */
+struct plain_set {
+    struct plain_message *messages;
+    size_t count;
+    size_t room;
+};
+
+/* "Each has a mode and a list of up to 32 PGNs of its own." */
+struct plain_pair {
+    unsigned mode;
+    unsigned count;
+    uint32_t pgns[32];
+};
+
+/* A box: at most 16 keys that are held, in no order, and the pairs by their two ports. */
+struct plain_box {
+    struct plain_set sets[16];
+    unsigned held;
+    struct plain_pair pairs[5][5];
+};
+
+void plain_start(struct plain_box *box);   /* a box of any bytes, for the first time */
+void plain_empty(struct plain_box *box);   /* no key is held */
+void plain_fresh(struct plain_box *box);   /* every pair is fresh */
+
+struct plain_answer plain_learn(struct plain_box *box, uint32_t identifier, unsigned length, const uint8_t data[8]);
+struct plain_answer plain_learn_message(struct plain_box *box, struct plain_message m);   /* a well-formed one, past answers 1 to 8 */
+struct plain_answer plain_forget(struct plain_box *box, unsigned source, unsigned destination, unsigned k);
+struct plain_answer plain_judge(const struct plain_box *box, unsigned source, unsigned destination, unsigned k);
+struct plain_answer plain_pack(const struct plain_box *box, unsigned source, unsigned destination, unsigned k, const uint32_t *numbers, size_t count,
+    uint8_t *payload, size_t size);
+struct plain_answer plain_read(const struct plain_box *box, unsigned source, unsigned destination, unsigned k, const uint8_t *payload, size_t size,
+    uint32_t *numbers, size_t room);
+struct plain_found plain_find(const struct plain_box *box, unsigned source, unsigned destination, unsigned k, uint32_t spn);
+
+/* n of a key's messages; 0 where the key is in conflict or not held. */
+unsigned plain_count(const struct plain_box *box, unsigned source, unsigned destination, unsigned k);
+
+/* The lowest key that is held and not below the three numbers, by source, then destination, then k: 1 and the key, or 0. */
+int plain_key_from(const struct plain_box *box, unsigned *source, unsigned *destination, unsigned *k);
+
+struct plain_answer plain_add(struct plain_box *box, unsigned from, unsigned to, uint32_t pgn);
+struct plain_answer plain_delete(struct plain_box *box, unsigned from, unsigned to, uint32_t pgn);
+struct plain_answer plain_clear(struct plain_box *box, unsigned from, unsigned to);
+struct plain_answer plain_set_mode(struct plain_box *box, unsigned from, unsigned to, unsigned mode);
+struct plain_answer plain_decide(const struct plain_box *box, unsigned from, unsigned to, uint32_t identifier);
+
+/* The listing of a log: its text into `text`, which has room for `room` bytes; the number of bytes, or 0 where they have no room. */
+size_t plain_listing(const uint8_t *log, size_t size, char *text, size_t room);
+
+/* The width of an SPN's parameter, 0 where the dictionary has it not. */
+unsigned plain_width(uint32_t spn);
+
+#endif
