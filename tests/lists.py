@@ -1,5 +1,5 @@
-"""The cases of judging, packing and reading over plain lists, as the rooms maps and payload take them: tags 8 to 10. The lists
-may be shorter or longer than a map needs; what the model is asked then is said in each function."""
+"""The cases of judging, packing and reading over plain lists, as the rooms maps and payload take them, and of looking up an SPN in
+rows: tags 8 to 11. The lists may be shorter or longer than a map needs; what the model is asked then is said in each function."""
 import model
 from dice import TOP, case, line, words
 from model import Answer
@@ -19,6 +19,10 @@ def cases(dice):
         answer, after = read(starts, widths, payload, room)
         yield (asked(10, 0, 0, [], starts, widths, room, 0, len(payload)) + bytes(payload),
                [line(answer.number, answer.detail, *after)])
+    for n, rows, spn in lent(dice):
+        known = [row[0] for row in rows[:n]]
+        found = (1, known.index(spn), rows[known.index(spn)][1]) if spn in known else (0, 0)
+        yield asked(11, n, 0, [spn], [], [], [number for row in rows for number in row]), [line(*found)]
 
 
 def asked(tag, n, transport, spns, starts, widths, numbers=(), seed=0, size=0):
@@ -271,3 +275,11 @@ def taken(dice):
         n = len(starts)
         room = dice.one_of([n, n, n, n + 1, n + 5, n - 1, dice.below(n)])
         yield starts, widths, dice.bytes(size), [dice.below(2**32) for _ in range(room)]
+
+
+def lent(dice):
+    """Rows that are no dictionary's: none, in no order, an SPN twice, any width. The first n of four are lent."""
+    for n in range(5):
+        for _ in range(12):
+            rows = [(dice.one_of([0, 1, 1517, 1519, TOP]), dice.one_of([0, 1, 8, 33, dice.below(2**32)])) for _ in range(4)]
+            yield n, rows, dice.one_of([rows[0][0], rows[3][0], 0, 1517, 1518, TOP])

@@ -84,14 +84,19 @@ fn both(t: Three) {
     more(frame::number_of(t));
 }
 
-fn row(spn: u32) {
-    match dictionary::row_of(spn) {
+// The start of a line: 1 and a row's number, or 0.
+pub(crate) fn found(f: Found) {
+    match f {
         Found::At(i) => {
             first(1);
             long(i as u64);
         }
         Found::Nothing => first(0),
     }
+}
+
+fn row(spn: u32) {
+    found(dictionary::row_of(spn));
     more(dictionary::width_of(spn));
 }
 
