@@ -8,6 +8,8 @@
  * - Start with yendrolf_start. From then on change the box by these calls alone. (Any other words in it are answered too, and nothing traps.)
  * - No pointer may be null, and what a call may write must not overlap with anything else that is lent to the same call. A `data` has 8 bytes.
  * - One call at a time on one box. Two boxes do not know of each other.
+ * - A number is what its type can hold: C makes 1 of a port 257 before the library sees it. (-Wconversion tells.)
+ * - The archive is for x86-64 Linux; the words of a box are the machine's own, so a box is no file format.
  *
  * Every answer has a number from this list (document 01, "Answer numbers"). A refusal, which is any number but 0 and 10, changes nothing.
  *
