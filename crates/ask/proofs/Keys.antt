@@ -1,46 +1,25 @@
--- The row of a key, and the key's map by it. Assumes nothing.
-use Prim.Native.Nat.{ℕ, _+_, _-_, _*_, _≤_, _<_}
-use mathlib.Core.Path.{_≡_, refl}
+-- A key without a row is not held, and has no parameter; the number of parameters of a row. Assumes nothing.
+use Prim.Native.Nat.{ℕ, _%_}
+use mathlib.Core.Path.{_≡_, ap}
 use mathlib.Core.Bool.{false}
-use mathlib.Core.List.{List, []}
-use lib.ListN.{length, take, drop}
-use native.Mathlib.Decide.{decLt}
-use native.Mathlib.Omega.{arith}
-use borrow.Author.Tests.{lt-ltb, le-ltb}
+use mathlib.Core.List.{List}
+use lib.ListN.{length, getD}
+use borrow.Author.Tests.{eq-eqb, ne-eqb}
 use Rattle.message.specs.declared.Key.{Key}
-use Rattle.words.proofs.Rows.{part-is-row}
-use Rattle.history.specs.History.{mostKeys}
-use Rattle.table.specs.Layout.{rowWords, tableWords, keyNumber, slotOf, rowOf}
-use Rattle.table.specs.View.{rowMap, mapIn}
-use Rattle.table.proofs.Words.{row-length}
+use Rattle.maps.specs.Judge.{countOf}
+use Rattle.table.specs.Layout.{tableWords, stateWord, formWord}
+use Rattle.table.specs.View.{headOf, rowMap, mapIn, rowFor}
+use Rattle.table.proofs.KeyRow.{no-map}
 use Rattle.ask.specs.Ask.{isHeld}
-use Rattle.ask.specs.Unfolded.{rowFor}
 
-module _ (t : List ℕ) (k : Key) where
-  pub row-none : (i : ℕ) → i ≡ slotOf t (keyNumber k) → mostKeys ≤ i → [] ≡ rowFor t k
-  unfolding rowFor
-  row-none i e l = rw (← e, le-ltb i mostKeys l)
+pub none-held : (t : List ℕ) (k : Key) → length t ≡ tableWords → (row : List ℕ) → row ≡ rowFor t k → length row ≡ 0 → isHeld (mapIn t k) ≡ false
+none-held t k long row its e = ap isHeld (no-map t k long row its e)
 
-  pub row-some : (i : ℕ) → i ≡ slotOf t (keyNumber k) → i < mostKeys → take (i * rowWords + rowWords - i * rowWords) (drop (i * rowWords) t) ≡ rowFor t k
-  unfolding rowFor
-  row-some i e l = rw (← e, lt-ltb i mostKeys l) (part-is-row rowWords t i)
+-- a row in conflict has no number, any other its form's
+pub row-conflict : (row : List ℕ) → (stateWord row ≡ 1 → ⊥) → 0 ≡ countOf (rowMap row)
+unfolding rowMap
+row-conflict row n = rw (ne-eqb (stateWord row) 1 n)
 
-  module _ (long : length t ≡ tableWords) (row : List ℕ) (its : row ≡ rowFor t k) where
-    -- a key without a row is not held
-    pub none-held : length row ≡ 0 → isHeld (mapIn t k) ≡ false
-    unfolding rowFor mapIn
-    none-held e =
-        elim (decLt (slotOf t (keyNumber k)) mostKeys) [
-          | yes l ↦ let z : length (rowOf t (slotOf t (keyNumber k))) ≡ 0 = rw (its, lt-ltb (slotOf t (keyNumber k)) mostKeys l) at e in
-              absurd (omega (arith, z, row-length t long (slotOf t (keyNumber k)) l))
-          | no l ↦ rw (le-ltb (slotOf t (keyNumber k)) mostKeys (omega arith))
-        ]
-
-    -- a key with a row has that row's map
-    pub its-map : (length row ≡ 0 → ⊥) → (length row ≡ rowWords) × (mapIn t k ≡ rowMap row)
-    unfolding rowFor mapIn
-    its-map n =
-        elim (decLt (slotOf t (keyNumber k)) mostKeys) [
-          | yes l ↦ rw (its, lt-ltb (slotOf t (keyNumber k)) mostKeys l) (row-length t long (slotOf t (keyNumber k)) l, refl)
-          | no l ↦ absurd (n (rw (its, le-ltb (slotOf t (keyNumber k)) mostKeys (omega arith))))
-        ]
+pub row-count : (row : List ℕ) → stateWord row ≡ 1 → headOf (formWord row) .n ≡ countOf (rowMap row)
+unfolding rowMap
+row-count row y = rw (eq-eqb (stateWord row) 1 y)

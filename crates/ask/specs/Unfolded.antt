@@ -1,18 +1,14 @@
 -- A row of the learned table as the judge, pack and read take it: lists of 64 SPNs, starts and widths. Only the promises of private functions cite this.
 -- Assumes nothing.
 use Prim.Native.Nat.{ℕ, suc}
-use mathlib.Core.Bool.{cond}
 use mathlib.Core.Option.{Option, none, some}
-use mathlib.Core.List.{List, []}
-use lib.Dec.{ltb}
+use mathlib.Core.List.{List}
 use Rattle.answers.specs.Answers.{detailed, Outcome, outcome}
-use Rattle.message.specs.declared.Key.{Key}
 use Rattle.payload.specs.Bits.{tabulate}
 use Rattle.payload.specs.Calls.{Told}
 use Rattle.dictionary.specs.Dictionary.{widthOf}
 use Rattle.maps.specs.Judge.{Param, measured, mark, spnAt, startAt}
-use Rattle.history.specs.History.{mostKeys}
-use Rattle.table.specs.Layout.{positions, keyNumber, rowOf, slotOf}
+use Rattle.table.specs.Layout.{positions}
 use Rattle.table.specs.View.{placeIn}
 
 -- what a row says of each position, with the dictionary's widths
@@ -32,10 +28,6 @@ startsIn row = tabulate (startAt (paramsIn row)) positions
 
 unfoldable pub widthsIn : List ℕ → List ℕ
 widthsIn row = tabulate (λ i. markedWidth (paramsIn row (suc i))) positions
-
--- the words of a key's row, none where the key is not held
-unfoldable pub rowFor : List ℕ → Key → List ℕ
-rowFor t k = cond (ltb (slotOf t (keyNumber k)) mostKeys) (rowOf t (slotOf t (keyNumber k))) []
 
 -- what payload's calls tell, as an outcome of a call of 01
 abbrev pub asOutcome : Told → Outcome

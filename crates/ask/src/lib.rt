@@ -11,31 +11,20 @@ ghost use Rattle.payload.specs.Bits.{lowest};
 ghost use Rattle.payload.specs.Calls.{toldBy};
 ghost use Rattle.rows.specs.Rows.{pairs};
 ghost use Rattle.dictionary.specs.Dictionary.{widthOf};
-ghost use Rattle.maps.specs.Judge.{spnIn, startIn, withWidth, mark, judge as judgementOf};
-ghost use Rattle.table.specs.Layout.{tableWords, rowWords, positions, keyOf};
+ghost use Rattle.maps.specs.Judge.{spnIn, startIn, withWidth, mark, countOf, judge as judgementOf};
+ghost use Rattle.table.specs.Layout.{rowWords, positions, keyOf};
 ghost use Rattle.table.specs.View.{headOf, placeOf, rowMap, mapIn};
 ghost use Rattle.ask.specs.Ask.{judgedBy, packedBy, readBy, foundIn, notFound, foundBy};
-ghost use Rattle.ask.specs.Unfolded.{spnsIn, startsIn, widthsIn, rowFor, asOutcome};
+ghost use Rattle.ask.specs.Unfolded.{spnsIn, startsIn, widthsIn, asOutcome};
 use answers::Answer;
 use answers::Judgement;
 use payload::Laying;
+use table::CELLS;
+use table::FORM;
+use table::HELD;
+use table::POSITIONS;
+use table::STATE;
 use table::WORDS;
-
-// The table: 16 rows of 67 words.
-const ROWS: usize = 16;
-
-const ROW_WORDS: usize = 67;
-
-// A row: its state, of which 1 is held and any other in conflict; n and the flags; from CELLS on a cell for each of 64 positions.
-const STATE: usize = 0;
-
-const HELD: u64 = 1;
-
-const FORM: usize = 2;
-
-const CELLS: usize = 3;
-
-const POSITIONS: usize = 64;
 
 // What finding gives; position, start and width are 0 on a refusal.
 pub struct Found {
@@ -126,7 +115,7 @@ fn judge_row(row: &[u64], spns: &mut [u32], starts: &mut [u32], widths: &mut [u3
 {
     let rows = rows::all();
     unfold_row(&rows, row, spns, starts, widths);
-    if row[STATE] != HELD {
+    if row[STATE] != HELD { // in conflict, whatever the cells say
         return Judgement::Conflict;
     }
     let form = row[FORM];
@@ -232,25 +221,25 @@ fn find_row(row: &[u64], spn: u32) -> Found
 
 // ---- the calls
 
-// The row of a key, with no word where the key is not held; the table's length, which its type says, is handed on with it.
-fn row_of(t: &[u64; WORDS], source: u8, destination: u8, k: u8) -> &[u64]
-    ensures { λ r. ⌜ (now r ≡ rowFor (now (t .entry)) (keyOf source destination k)) × (length (now (t .entry)) ≡ tableWords) ⌝ }
+// The number of parameters of a key's map; 0 where it is in conflict, or not held.
+pub fn count(t: &[u64; WORDS], source: u8, destination: u8, k: u8) -> u8
+    ensures { λ r. ⌜ r ≡ countOf (mapIn (now (t .entry)) (keyOf source destination k)) ⌝ }
 {
-    let words = &t[..];
-    let i = table::slot_of(t, table::key_number(source, destination, k));
-    if ROWS <= i {
-        return &words[..0];
+    let row = table::row_of(t, source, destination, k);
+    if row.len() == 0 {
+        return 0;
     }
-    let a = i * ROW_WORDS;
-    let e = a + ROW_WORDS;
-    &words[a..e]
+    if row[STATE] != HELD { // in conflict: N is 0
+        return 0;
+    }
+    n_of(row[FORM])
 }
 
 // Judges a key's map: 11, else 0 with the judgement.
 pub fn judge(t: &[u64; WORDS], source: u8, destination: u8, k: u8) -> Answer
     ensures { λ r. ⌜ inNumbers r ≡ judgedBy widthOf (mapIn (now (t .entry)) (keyOf source destination k)) ⌝ }
 {
-    let row = row_of(t, source, destination, k);
+    let row = table::row_of(t, source, destination, k);
     if row.len() == 0 {
         return answers::plainly(11);
     }
@@ -273,7 +262,7 @@ pub fn pack(
     ensures { λ r. ⌜ outcome (inNumbers r) (now (out .exit))
         ≡ packedBy widthOf (mapIn (now (t .entry)) (keyOf source destination k)) (now (numbers .entry)) (now (out .entry)) ⌝ }
 {
-    let row = row_of(t, source, destination, k);
+    let row = table::row_of(t, source, destination, k);
     if row.len() == 0 {
         return answers::plainly(11);
     }
@@ -293,7 +282,7 @@ pub fn read(
     ensures { λ r. ⌜ outcome (inNumbers r) (now (room .exit))
         ≡ readBy widthOf (mapIn (now (t .entry)) (keyOf source destination k)) (now (payload .entry)) (now (room .entry)) ⌝ }
 {
-    let row = row_of(t, source, destination, k);
+    let row = table::row_of(t, source, destination, k);
     if row.len() == 0 {
         return answers::plainly(11);
     }
@@ -304,7 +293,7 @@ pub fn read(
 pub fn find(t: &[u64; WORDS], source: u8, destination: u8, k: u8, spn: u32) -> Found
     ensures { λ r. ⌜ foundIn r ≡ foundBy widthOf (mapIn (now (t .entry)) (keyOf source destination k)) spn ⌝ }
 {
-    let row = row_of(t, source, destination, k);
+    let row = table::row_of(t, source, destination, k);
     if row.len() == 0 {
         return refused(answers::plainly(11));
     }

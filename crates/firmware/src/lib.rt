@@ -150,9 +150,8 @@ pub extern "C" fn yendrolf_table_empty(t: &mut [u64; 1072])
 pub extern "C" fn yendrolf_table_learn(t: &mut [u64; 1072], id: u32, len: u8, d: &[u8; 8]) -> Told
     ensures { λ r. ⌜ outcome (saidTo r) (now (t .exit)) ≡ learnt (now (t .entry)) id len (now (d .entry)) ⌝ }
 {
-    let bad = message::frame_fault(id, len, frame::split(id));
-    if bad != 0 {
-        return in_c(answers::plainly(bad));
+    if message::frame_fault(id, len, frame::split(id)) == 2 {
+        return in_c(answers::plainly(2));
     }
     in_c(table::learn(t, id, len, d))
 }

@@ -1,7 +1,7 @@
 pub mod Records
 pub mod Chunks
 pub mod Pieces
-pub mod Counted
+pub mod KeyLine
 pub mod Sorted
 pub mod Feeding
 pub mod Widths

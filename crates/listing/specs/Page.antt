@@ -3,15 +3,11 @@
 use Prim.Native.Nat.{ℕ}
 use mathlib.Core.Bool.{cond}
 use mathlib.Core.List.{List, [], _∷_, flatten}
-use lib.Dec.{ltb}
 use lib.ListN.{length}
 use Rattle.answers.specs.Answers.{Outcome, outcome, plain, done}
 use Rattle.splice.specs.Splice.{fits, splice}
 use Rattle.text.specs.Text.{Page, put}
-use Rattle.maps.specs.Judge.{countOf}
-use Rattle.history.specs.History.{mostKeys}
-use Rattle.table.specs.Layout.{rowOf}
-use Rattle.table.specs.View.{rowMap, mapIn}
+use Rattle.table.specs.View.{mapIn}
 use Rattle.table.specs.Next.{heldKeys}
 use Rattle.listing.specs.declared.Tally.{Tally}
 use Rattle.listing.specs.Lines.{listingWith}
@@ -28,11 +24,7 @@ pageOf t s = flatten (piecesOf t s)
 unfoldable pub finished : List ℕ → Tally → List ℕ → Outcome
 finished t s out = cond (fits out 0 (pageOf t s)) (outcome (done (length (pageOf t s))) (splice out 0 (pageOf t s))) (outcome (plain 13) out)
 
--- ---- only the promises of private functions cite these
-
--- the number of parameters of row i, 0 past the last
-unfoldable pub countAt : List ℕ → ℕ → ℕ
-countAt t i = cond (ltb i mostKeys) (countOf (rowMap (rowOf t i))) 0
+-- ---- only the promises of private functions cite this
 
 -- pieces laid one after another
 unfoldable pub laidAll : Page → List (List ℕ) → Page

@@ -8,32 +8,21 @@ ghost use lib.ListN.{length};
 ghost use Rattle.answers.specs.Answers.{at as judgedAt, outcome, inNumbers};
 ghost use Rattle.text.specs.Text.{decimalOf, page};
 ghost use Rattle.record.specs.Cut.{leftOf, over};
-ghost use Rattle.maps.specs.Judge.{countOf};
-ghost use Rattle.table.specs.Layout.{tableWords};
 ghost use Rattle.table.specs.View.{mapIn};
 ghost use Rattle.table.specs.Next.{heldKeys};
-ghost use Rattle.listing.specs.Lines.{isRefused, isOther, withAnswer, lineOf, keyLine, keyLines, lastLine};
+ghost use Rattle.listing.specs.Lines.{isRefused, isOther, wrapped, withAnswer, lineOf, keyLine, keyLines, lastLine};
 ghost use Rattle.listing.specs.Feed.{state, step, leftIn, padded, started, fed, cutOff, feeding};
-ghost use Rattle.listing.specs.Page.{piecesOf, finished, countAt, laidAll};
+ghost use Rattle.listing.specs.Page.{piecesOf, finished, laidAll};
 use answers::Answer;
 use message::Key;
 use table::Next;
+use table::ROWS;
 use table::WORDS;
 
 // So many bytes hold any listing (proofs/Widths.antt).
 pub const PAGE: usize = 512;
 
 const SIZE: usize = 13;
-
-const ROWS: usize = 16;
-
-const ROW_WORDS: usize = 67;
-
-// The first word of a row is its state; a row that is held and not in conflict has this one.
-const HELD: u64 = 1;
-
-// The word of a row that has the number of parameters in its low byte.
-const FORM: usize = 2;
 
 // How many records there were, how many were refused, and how many were of another PGN; each modulo 2^64.
 pub struct Counts {
@@ -63,19 +52,23 @@ fn is_other(number: u8) -> bool
     number == 2
 }
 
-fn bit(b: bool) -> u64
-    ensures { λ r. ⌜ r ≡ cond b 1 0 ⌝ }
+// A count with one more where the test says so.
+fn with_one(n: u64, b: bool) -> u64
+    ensures { λ r. ⌜ r ≡ wrapped (n + cond b 1 0) ⌝ }
 {
-    if b { 1 } else { 0 }
+    if b {
+        return std::num::wrapping_add_u64(n, 1);
+    }
+    n
 }
 
 // One record more, that was answered with this number.
 fn with_answer(c: Counts, number: u8) -> Counts
     ensures { λ r. ⌜ r ≡ withAnswer c number ⌝ }
 {
-    let records = std::num::wrapping_add_u64(c.records, 1);
-    let refused = std::num::wrapping_add_u64(c.refused, bit(is_refused(number)));
-    let other = std::num::wrapping_add_u64(c.other, bit(is_other(number)));
+    let records = with_one(c.records, true);
+    let refused = with_one(c.refused, is_refused(number));
+    let other = with_one(c.other, is_other(number));
     Counts {
         records,
         refused,
@@ -85,15 +78,14 @@ fn with_answer(c: Counts, number: u8) -> Counts
 
 // ---- records
 
-// One record: its frame is learned from, and the answer is counted. A frame that is refused by its identifier or its length costs no call of the table and
-// no look at its data.
+// One record: its frame is learned from, and the answer is counted. A frame of another PGN, as nearly every frame is, costs no call of the table and no
+// look at its data.
 fn one(t: &mut [u64; WORDS], c: Counts, r: &[u8]) -> Counts
     ensures { λ q. ⌜ state (now (t .exit)) q ≡ step (state (now (t .entry)) c) (now (r .entry)) ⌝ }
 {
     let f = record::read(r);
-    let bad = message::frame_fault(f.id, f.len, frame::split(f.id));
-    if bad != 0 {
-        return with_answer(c, bad);
+    if message::frame_fault(f.id, f.len, frame::split(f.id)) == 2 {
+        return with_answer(c, 2);
     }
     let bytes = f.bytes;
     let a = table::learn(t, f.id, f.len, &bytes);
@@ -207,36 +199,11 @@ fn put_line(out: &mut [u8], at: usize, key: Key, n: u8, judged: u8, position: u8
     put_number(out, at, position as u64, b"\n")
 }
 
-// The number of parameters of a row; 0 where it is in conflict, and past the last row.
-fn count_in(t: &[u64], i: usize) -> u8
-    requires { ⌜ length (now t) ≡ tableWords ⌝ }
-    ensures { λ r. ⌜ r ≡ countAt (now (t .entry)) i ⌝ }
-{
-    if ROWS <= i {
-        return 0;
-    }
-    let a = i * ROW_WORDS;
-    if t[a] != HELD {
-        return 0;
-    }
-    (t[a + FORM] % 256) as u8
-}
-
-// The number of parameters of a key's map; 0 where it is in conflict, or not held.
-fn count_of(t: &[u64; WORDS], key: Key) -> u8
-    ensures { λ r. ⌜ r ≡ countOf (mapIn (now (t .entry)) key) ⌝ }
-{
-    count_in(
-        t,
-        table::slot_of(t, table::key_number(key.source, key.destination, key.k)),
-    )
-}
-
 // Lays the line of one key, by what the table holds of it.
 fn put_key(t: &[u64; WORDS], out: &mut [u8], at: usize, key: Key) -> usize
     ensures { λ r. ⌜ page r (now (out .exit)) ≡ laidAll (page at (now (out .entry))) (keyLine key (mapIn (now (t .entry)) key)) ⌝ }
 {
-    let n = count_of(t, key);
+    let n = ask::count(t, key.source, key.destination, key.k);
     let judged = ask::judge(t, key.source, key.destination, key.k);
     let judgement = judged.judgement;
     let number = answers::number_of(judgement);

@@ -1,6 +1,8 @@
 // What one Configuration Identification Message says (01, "What one message says"; docs/WIRE.md has 002's words).
 ghost use mathlib.Core.Path.{_≡_};
 ghost use Prim.Native.Nat.{_-_};
+ghost use lib.Dec.{eqb};
+ghost use Rattle.frame.specs.Frame.{pgnOf};
 ghost use Rattle.message.specs.Message.{wireOf, foreign, unflagged, miscounted, misplaced, frameTests, dataTests, firstOf, messageOf, heardOf, heardFrom, heard};
 use frame::Fields;
 use frame::Three;
@@ -108,13 +110,21 @@ pub fn is_misplaced(start: u32) -> bool
     (start == 0) | (14280 < start) | (250 < start)
 }
 
+// Whether a frame's PGN is 45056, that of a Configuration Identification Message. PF 176 is below 240, so that PS is no part of the PGN, and the three fields
+// above it say all.
+pub fn is_configuration(f: Fields) -> bool
+    ensures { λ r. ⌜ r ≡ eqb (pgnOf f) 45056 ⌝ }
+{
+    (f.reserved == 0) & (f.page == 0) & (f.pf == 176)
+}
+
 // The first of 1 to 4 that applies, or 0. No data byte is asked for.
 pub fn frame_fault(id: u32, len: u8, f: Fields) -> u8
     ensures { λ r. ⌜ r ≡ firstOf (frameTests id len f) 0 ⌝ }
 {
     let four = pick8(254 <= f.source, 4, 0);
     let three = pick8(len != 8, 3, four);
-    let two = pick8(frame::pgn(f) != 45056, 2, three);
+    let two = pick8(!is_configuration(f), 2, three);
     pick8(0x1fff_ffff < id, 1, two)
 }
 

@@ -1,6 +1,7 @@
 pub mod Words
 pub mod RowKeys
 pub mod View
+pub mod KeyRow
 pub mod RowMaps
 pub mod Frames
 pub mod KeyNumbers

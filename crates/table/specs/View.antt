@@ -33,6 +33,10 @@ rowMap r = cond (eqb (stateWord r) 1) (Held (headOf (formWord r)) (placeIn r)) C
 unfoldable pub mapIn : List ℕ → Key → Map
 mapIn t k = cond (ltb (slotOf t (keyNumber k)) mostKeys) (rowMap (rowOf t (slotOf t (keyNumber k)))) Nothing
 
+-- the words of a key's row, none where the key is not held
+unfoldable pub rowFor : List ℕ → Key → List ℕ
+rowFor t k = cond (ltb (slotOf t (keyNumber k)) mostKeys) (rowOf t (slotOf t (keyNumber k))) []
+
 -- ---- how many keys are held
 
 -- the keys of the rows that are not free, of the first n rows

@@ -10,6 +10,7 @@ ghost use Rattle.history.specs.History.{mostKeys};
 ghost use Rattle.table.specs.Layout.{tableWords, rowWords, lastStart, Storable, keyOf, keyNumber, bitOf, formNumber, cellNumber, wordsAre, slotOf, freeSlot};
 ghost use Rattle.table.specs.Learn.{rowFits, learnRow, newRow, learnMessage, learnt, emptyTable};
 ghost use Rattle.table.specs.Forget.{freeTo, forgotten};
+ghost use Rattle.table.specs.View.{rowFor};
 ghost use Rattle.table.specs.Next.{keyFound, lowestFrom, keyAt, firstKey, nextKey};
 use answers::Answer;
 use message::Decoded;
@@ -21,21 +22,25 @@ use message::Place;
 // The table: 16 rows of 67 words.
 pub const WORDS: usize = 1072;
 
-const ROWS: usize = 16;
+pub const ROWS: usize = 16;
 
 const ROW_WORDS: usize = 67;
 
-// The words of a row: state, key, form, and at FORM + p the cell of position p.
-const STATE: usize = 0;
+// The words of a row: state, key, form, and from CELLS on a cell for each of 64 positions; that of position p is at FORM + p.
+pub const STATE: usize = 0;
 
 const KEY: usize = 1;
 
-const FORM: usize = 2;
+pub const FORM: usize = 2;
+
+pub const CELLS: usize = 3;
+
+pub const POSITIONS: usize = 64;
 
 // The states: any other than these three is in conflict too.
 const FREE: u64 = 0;
 
-const HELD: u64 = 1;
+pub const HELD: u64 = 1;
 
 const IN_CONFLICT: u64 = 2;
 
@@ -189,11 +194,18 @@ fn free_slot(t: &[u64]) -> usize
     ROWS
 }
 
-// The lowest row that holds the key, or 16.
-pub fn slot_of(t: &[u64; WORDS], key: u64) -> usize
-    ensures { λ r. ⌜ r ≡ slotOf (now (t .entry)) key ⌝ }
+// The row of a key, with no word where the key is not held; the table's length, which its type says, is handed on with it.
+pub fn row_of(t: &[u64; WORDS], source: u8, destination: u8, k: u8) -> &[u64]
+    ensures { λ r. ⌜ (now r ≡ rowFor (now (t .entry)) (keyOf source destination k)) × (length (now (t .entry)) ≡ tableWords) ⌝ }
 {
-    slot_in(t, key)
+    let words = &t[..];
+    let i = slot_in(words, key_number(source, destination, k));
+    if ROWS <= i {
+        return &words[..0];
+    }
+    let a = i * ROW_WORDS;
+    let e = a + ROW_WORDS;
+    &words[a..e]
 }
 
 // One well-formed message: into its key's row, or into the lowest free one, or 9. One row is touched.

@@ -8,7 +8,8 @@ use Rattle.table.specs.View.{rowMap}
 use Rattle.ask.specs.Ask.{judgedBy}
 use Rattle.ask.proofs.Unfolded.{row-held}
 use Rattle.ask.proofs.Calls.{judge-none, judge-held}
-use Rattle.ask.proofs.Keys.{none-held, its-map}
+use Rattle.table.proofs.KeyRow.{its-map}
+use Rattle.ask.proofs.Keys.{none-held}
 use Rattle.ask.proofs.judge.Statement.{statement}
 use Rattle.ask.proofs.judge.Tie as tie
 

@@ -6,7 +6,8 @@ use Rattle.dictionary.specs.Dictionary.{widthOf}
 use Rattle.maps.specs.Maps.{Map}
 use Rattle.ask.specs.Ask.{packedBy}
 use Rattle.ask.proofs.Calls.{pack-none}
-use Rattle.ask.proofs.Keys.{none-held, its-map}
+use Rattle.table.proofs.KeyRow.{its-map}
+use Rattle.ask.proofs.Keys.{none-held}
 use Rattle.ask.proofs.pack.Statement.{statement}
 use Rattle.ask.proofs.pack.Tie as tie
 

@@ -1,7 +1,8 @@
--- `firmware::yendrolf_table_learn` meets its contract: what the identifier and the length refuse is refused at once; for any other frame the promise of the
+-- `firmware::yendrolf_table_learn` meets its contract: a frame of another PGN is refused at once; for any other frame the promise of the
 -- room below, with the answer as C gets it.
 -- Assumes nothing.
-use mathlib.Core.Path.{ap, _∙_}
+use mathlib.Core.Path.{refl, sym, ap, _∙_}
+use borrow.Author.Tests.{eqb-false}
 use Rattle.frame.specs.declared.Fields.{Fields}
 use Rattle.frame.specs.Frame.{fieldsOf}
 use Rattle.message.specs.Message.{wireOf, firstOf, frameTests, heard}
@@ -18,9 +19,9 @@ returns c =
     let fault = c .before .before .before .frame-fault in
     simp (c .in-c .ensures, c .before .plainly .ensures)
     (refused (a .t .now) (a .id) (a .len) (a .d .now) _
-    (refused-at-once (a .id) (a .len) (fieldsOf (a .id)) (wireOf (a .d .now)) (fault .result)
-    (fault .ensures ∙ ap (λ (x : Fields). firstOf (frameTests (a .id) (a .len) x) 0) (c .before .before .before .before .split .ensures))
-    (c .before .before .if1 .taken)))
+    (refused-at-once (a .id) (a .len) (fieldsOf (a .id)) (wireOf (a .d .now)) 2
+    (sym (c .before .before .if1 .taken) ∙ fault .ensures ∙ ap (λ (x : Fields). firstOf (frameTests (a .id) (a .len) x) 0) (c .before .before .before .before .split .ensures))
+    (eqb-false 2 0 refl)))
 
 returns-2 : tie.Need-returns-2
 returns-2 c = simp (c .in-c2 .ensures) (c .before .learn .ensures)

@@ -3,20 +3,20 @@ use mathlib.Core.Path.{sym, ap, _∙_}
 use Prim.Native.Nat.{ℕ}
 use denote.Ref.{now}
 use borrow.Author.Needs.{needs}
 use Rattle.table.specs.Layout.{slotOf}
-use Rattle.ask.proofs.Keys.{row-none, row-some}
-use Rattle.ask.proofs.row_of.Statement.{statement}
-use Rattle.ask.proofs.row_of.Tie as tie
+use Rattle.table.proofs.KeyRow.{row-none, row-some}
+use Rattle.table.proofs.row_of.Statement.{statement}
+use Rattle.table.proofs.row_of.Tie as tie
 
 returns : tie.Need-returns
 returns c =
     let s = c .before .before in
-    (row-none _ _ (s .slot-of .result) (s .slot-of .ensures ∙ ap (slotOf _) (s .before .key-number .ensures)) (c .before .if1 .taken), search needs)
+    (row-none _ _ (s .slot-in .result) (s .slot-in .ensures ∙ ap (slotOf _) (s .before .key-number .ensures)) (c .before .if1 .taken), search needs)
 
 returns-2 : tie.Need-returns-2
 returns-2 c =
     let s = c .before .before in
-    (row-some _ _ (s .slot-of .result) (s .slot-of .ensures ∙ ap (slotOf _) (s .before .key-number .ensures)) (c .before .if1 .left), search needs)
+    (row-some _ _ (s .slot-in .result) (s .slot-in .ensures ∙ ap (slotOf _) (s .before .key-number .ensures)) (c .before .if1 .left), search needs)
 
 pub row-of-spec : {M : Type 1} → statement M
 row-of-spec =

@@ -1,0 +1,37 @@
+-- `count`: no row, a row in conflict, or the number of the row's form. Assumes nothing.
+use mathlib.Core.Path.{sym, ap, _∙_}
+use denote.Ref.{now}
+use native.Mathlib.Omega.{arith}
+use borrow.Author.Needs.{needs}
+use Rattle.maps.specs.Judge.{countOf}
+use Rattle.table.proofs.KeyRow.{no-map, its-map}
+use Rattle.ask.proofs.Keys.{row-conflict, row-count}
+use Rattle.ask.proofs.count.Statement.{statement}
+use Rattle.ask.proofs.count.Tie as tie
+
+returns : tie.Need-returns
+returns c =
+    let r = c .before in
+    sym (ap countOf (no-map _ _ (r .row-of .ensures .1) _ (r .row-of .ensures .0) (c .if1 .taken)))
+
+returns-2 : tie.Need-returns-2
+returns-2 c =
+    let d = c .before .before in
+    let r = d .before in
+    row-conflict (now (r .row-of .result)) (c .if2 .taken) ∙ ap countOf (sym (its-map _ _ (r .row-of .ensures .1) _ (r .row-of .ensures .0) (d .if1 .left) .1))
+
+shared-slice-read-n-of : tie.Need-shared-slice-read-n-of
+shared-slice-read-n-of c =
+    let d = c .before .before .before in
+    let r = d .before in
+    omega (arith, its-map _ _ (r .row-of .ensures .1) _ (r .row-of .ensures .0) (d .if1 .left) .0)
+
+returns-3 : tie.Need-returns-3
+returns-3 c =
+    let s = c .before .before in
+    let d = s .before .before in
+    let r = d .before in
+    c .n-of .ensures ∙ row-count (now (r .row-of .result)) (s .if2 .left) ∙ ap countOf (sym (its-map _ _ (r .row-of .ensures .1) _ (r .row-of .ensures .0) (d .if1 .left) .1))
+
+pub count-spec : {M : Type 1} → statement M
+count-spec = tie.close (tie.spec (λ c κs. search needs) returns (λ c. search needs) returns-2 shared-slice-read-n-of (λ c κs. search needs) returns-3)
