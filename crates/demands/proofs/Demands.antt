@@ -41,6 +41,7 @@ use Rattle.ask.proofs.Laws.{Unusable, pack-12, read-12, find-12, pack-bit, pack
 
 -- every answer that a map decides
 pub record Answers (m n : Map) : Type 0 where
+  pub count : countOf m ≡ countOf n
   pub judge : judgedBy widthOf m ≡ judgedBy widthOf n
   pub pack : (numbers out : List ℕ) → packedBy widthOf m numbers out ≡ packedBy widthOf n numbers out
   pub read : (payload room : List ℕ) → readBy widthOf m payload room ≡ readBy widthOf n payload room
@@ -48,6 +49,7 @@ pub record Answers (m n : Map) : Type 0 where
 
 same-answers : (m n : Map) → m ≡ n → Answers m n
 same-answers m n e = record {
+  count = ap countOf e;
   judge = ap (judgedBy widthOf) e;
   pack = λ numbers out. ap (λ (x : Map). packedBy widthOf x numbers out) e;
   read = λ payload room. ap (λ (x : Map). readBy widthOf x payload room) e;
