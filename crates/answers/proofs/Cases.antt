@@ -1,6 +1,5 @@
 -- An answer's numbers say which answer it is: a promise about the numbers leaves no choice of the case.
 -- Assumes nothing.
-use Prim.Native.Nat.{ℕ}
 use mathlib.Core.Path.{_≡_, refl, sym, ap, _∙_}
 use mathlib.Core.Bool.{cond}
 use lib.Dec.{eqb}

@@ -7,13 +7,11 @@ use lib.Dec.{eqb, ltb}
 use lib.ListN.{length}
 use borrow.Author.Tests.{eq-eqb, ne-eqb}
 use Rattle.answers.specs.Answers.{Judged, Said, plain, judged, unusable, Outcome, outcome}
-use Rattle.payload.specs.Place.{sizeOf}
 use Rattle.payload.specs.Calls.{Told, tooWideIn, packing, reading}
-use Rattle.payload.proofs.Bits.{length-tabulate}
 use Rattle.maps.specs.Maps.{Map, Nothing, Conflict, Held}
 use Rattle.maps.specs.Judge.{startIn, widthIn, judge, usable, countOf, paramsOf, startsOf, widthsOf, lengthOf}
 use Rattle.maps.proofs.Judged.{lists-length, usable-placed}
-use Rattle.ask.specs.Ask.{isHeld, judgedBy, ifUsable, packedBy, readBy, Finding, notFound, positionOf, foundBy}
+use Rattle.ask.specs.Ask.{isHeld, judgedBy, ifUsable, packedBy, readBy, notFound, positionOf, foundBy}
 use Rattle.ask.specs.Unfolded.{asOutcome}
 
 module _ (widthOf : ℕ → ℕ) where
@@ -27,10 +25,6 @@ module _ (widthOf : ℕ → ℕ) where
   held-usable m h e = rw (usable-is m, h) (eq-eqb (judge widthOf m .number) 0 e)
 
   module _ (m : Map) {A : Type 0} (refused : Said → A) (rest : A) where
-    -- the key is not held
-    pub if-none : isHeld m ≡ false → ifUsable widthOf m refused rest ≡ refused (plain 11)
-    if-none e = rw e
-
     -- its map is not usable
     pub if-bad : isHeld m ≡ true → (judge widthOf m .number ≡ 0 → ⊥) → ifUsable widthOf m refused rest ≡ refused (unusable (judge widthOf m))
     if-bad e n = rw (usable-is m, e, ne-eqb (judge widthOf m .number) 0 n)

@@ -5,16 +5,16 @@ use mathlib.Core.Path.{_≡_, refl, sym, ap, _∙_}
 use mathlib.Core.Bool.{Bool, true, false, cond, not, _||_}
 use mathlib.Core.Option.{Option}
 use mathlib.Core.List.{List, _++_}
-use native.Mathlib.Decide.{decLt, ℕ-discrete}
+use native.Mathlib.Decide.{decLt}
 use native.Mathlib.Omega.{arith}
-use borrow.Author.Tests.{eq-eqb, ne-eqb, lt-ltb, le-ltb, eqb-true, eqb-false, ltb-true, ltb-false, not-false}
+use borrow.Author.Tests.{eq-eqb, ne-eqb, lt-ltb, le-ltb, eqb-true, ltb-false, not-false}
 use lib.Dec.{eqb, ltb}
-use lib.ListN.{length, getD, take, drop, length-append, List·getD-append}
+use lib.ListN.{length, getD, take, drop, List·getD-append}
 use lib.Seq.{take-at, drop-at}
 use Rattle.answers.specs.Answers.{Judged, Said, plain, detailed, done, unusable, Outcome, outcome}
 use Rattle.answers.proofs.Cases.{same-answer}
 use Rattle.payload.specs.Bits.{bitOf, bitAt}
-use Rattle.payload.specs.Place.{placeIn, assigned, sizeOf}
+use Rattle.payload.specs.Place.{placeIn, assigned}
 use Rattle.payload.specs.Payload.{packed, readNumber, readAll, filled, Apart, Fit}
 use Rattle.payload.specs.Calls.{tooWideIn}
 use Rattle.payload.proofs.Below.{neither, lowest-at, lowest-none}
@@ -23,11 +23,11 @@ use Rattle.payload.proofs.Placed.{none-wide, fit-none-wide}
 use Rattle.payload.proofs.Laws.{packed-at, packed-other, packed-length, read-packed, packed-read, read-length}
 use Rattle.maps.specs.Maps.{Map}
 use Rattle.maps.specs.Judge.{Param, spnAt, judge, usable, countOf, paramsOf, startsOf, widthsOf, lengthOf}
-use Rattle.maps.proofs.Tests.{test, never}
+use Rattle.words.proofs.Tests.{test, never}
 use Rattle.maps.proofs.Judged.{lists-length, usable-sound, usable-apart, usable-length}
 use Rattle.ask.specs.declared.Found.{Found}
 use Rattle.ask.specs.Ask.{isHeld, ifUsable, packedBy, readBy, Finding, foundIn, notFound, foundAt, foundBy, positionOf}
-use Rattle.ask.proofs.Calls.{usable-is, held-usable, if-good, if-bad}
+use Rattle.ask.proofs.Calls.{held-usable, if-good, if-bad}
 
 -- numbers that were read need no more than their widths
 read-fit : (ss ws payload : List ℕ) → Fit ss ws (readAll ss ws payload)

@@ -17,8 +17,8 @@ use Rattle.payload.specs.Bits.{lowest, tabulate}
 use Rattle.payload.proofs.Bits.{length-tabulate, get-tabulate, write-more, write-all}
 use Rattle.dictionary.specs.Dictionary.{widthOf}
 use Rattle.dictionary.proofs.Table.{width-most}
-use Rattle.maps.specs.Maps.{Map, Nothing, Conflict, Held}
-use Rattle.maps.specs.Judge.{Param, withWidth, isNone, spnIn, startIn, spnAt, startAt, widthAt, widthIn, judgeOver, judge, usable, countOf, paramsOf, startsOf, widthsOf, mark, marked, numberAt, inSlices}
+use Rattle.maps.specs.Maps.{Map, Conflict, Held}
+use Rattle.maps.specs.Judge.{Param, withWidth, isNone, spnIn, startIn, spnAt, startAt, widthAt, widthIn, judgeOver, judge, usable, countOf, paramsOf, startsOf, widthsOf, mark, inSlices}
 use Rattle.maps.proofs.Search.{in-range}
 use Rattle.maps.proofs.Rules.{lowest-most, lowest-equal}
 use Rattle.maps.proofs.Judged.{usable-sound}

@@ -12,7 +12,7 @@
 use Prim.Native.Nat.{ℕ, _*_, _≤_, _<_}
 use mathlib.Core.Path.{_≡_, refl, sym, ap, _∙_}
 use mathlib.Core.Bool.{false}
-use mathlib.Core.List.{List, [], _∷_, _++_}
+use mathlib.Core.List.{List, _∷_, _++_}
 use mathlib.Core.Option.{Option, none, some}
 use lib.ListN.{length, take, drop, getD}
 use Rattle.answers.specs.Answers.{plain, done, Outcome, outcome}
@@ -26,13 +26,13 @@ use Rattle.payload.specs.Payload.{filled}
 use Rattle.maps.specs.Maps.{Map, mapOf, SameMembers}
 use Rattle.maps.specs.Judge.{countOf, startsOf, widthsOf, lengthOf}
 use Rattle.maps.proofs.Maps.{same-map}
-use Rattle.history.specs.History.{Event, Learn, Forget, since, answer, setOf, Few}
+use Rattle.history.specs.History.{Learn, Forget, since, answer, setOf, Few}
 use Rattle.history.proofs.Same.{same-answer}
 use Rattle.table.specs.Layout.{keyNumber}
 use Rattle.table.specs.View.{mapIn}
 use Rattle.table.specs.Learn.{learnt}
 use Rattle.table.specs.Forget.{forgotten}
-use Rattle.table.specs.Calls.{Call, Frame, Forgets, run, happened, frameAnswer, heardAnswer, InBytes, Carried, AllCarried}
+use Rattle.table.specs.Calls.{Call, Frame, run, happened, frameAnswer, heardAnswer, InBytes, Carried, AllCarried}
 use Rattle.table.proofs.RunsOfCalls.{map-is, demand-map, demand-frame, demand-forget}
 use Rattle.ask.specs.Ask.{judgedBy, packedBy, readBy, Finding, foundBy}
 use Rattle.ask.proofs.Laws.{Unusable, pack-12, read-12, find-12, pack-bit, pack-other, pack-past, read-back, never-14, pack-back}
@@ -72,6 +72,12 @@ module _ (calls : List Call) (bytes : AllCarried calls) where
 
     pub demand-3-forget : (k : Key) → InBytes k → forgotten (run calls) (keyNumber k) .answer ≡ plain (answer (happened calls) (Forget k))
     demand-3-forget = demand-forget calls bytes few
+
+-- two runs that leave a key the same set, whatever came before, between and to other keys, give the same answers about it
+pub same-set : (calls others : List Call) → AllCarried calls → AllCarried others → (k : Key) → InBytes k
+    → SameMembers (setOf (happened calls) k) (setOf (happened others) k) → Answers (mapIn (run calls) k) (mapIn (run others) k)
+same-set calls others bytes bytes′ k b same =
+    same-answers _ _ (map-is calls bytes k b ∙ same-map (setOf (happened calls) k) (setOf (happened others) k) same ∙ sym (map-is others bytes′ k b))
 
 -- "Order, repeats and other keys don't count": two runs with the same collection for a key give the same answers about it
 module _ (calls others : List Call) (bytes : AllCarried calls) (bytes′ : AllCarried others) (few : Few (happened calls)) (few′ : Few (happened others)) where

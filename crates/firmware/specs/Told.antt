@@ -1,6 +1,5 @@
 -- What C gets, in 01's numbers.
 -- Assumes nothing.
-use Prim.Native.Nat.{ℕ}
 use mathlib.Core.Option.{Option, none, some}
 use Rattle.answers.specs.Answers.{Said, saidOf}
 use Rattle.answers.specs.declared.Answer.{Answer}

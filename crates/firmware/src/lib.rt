@@ -1,7 +1,7 @@
 // The box's calls for C (include/yendrolf.h declares them): each is one call of a room below, on memory that C lends as one pointer, and has that
 // room's promise. The length of what is lent stands in the type, so it is C that answers for it; include/yendrolf.h makes it one block.
 ghost use mathlib.Core.Path.{_≡_};
-ghost use Rattle.answers.specs.Answers.{inNumbers, outcome};
+ghost use Rattle.answers.specs.Answers.{outcome};
 ghost use Rattle.table.specs.Layout.{keyOf, keyNumber};
 ghost use Rattle.table.specs.Learn.{learnt, emptyTable};
 ghost use Rattle.table.specs.Forget.{forgotten};

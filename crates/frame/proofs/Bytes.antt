@@ -1,6 +1,6 @@
 -- Three bytes and their number: each way undoes the other, for a PGN and for an SPN with the five bits that it leaves.
 -- Assumes nothing.
-use Prim.Native.Nat.{ℕ, _+_, _*_, _/_, _%_, _^_, _<_}
+use Prim.Native.Nat.{ℕ, _+_, _*_, _/_, _%_, _<_}
 use mathlib.Core.Path.{_≡_, ap, _∙_}
 use lib.Pow.{low}
 use native.Mathlib.Nat.{mod-eq-of-lt}

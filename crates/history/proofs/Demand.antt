@@ -10,12 +10,12 @@ use lib.Dec.{eqb}
 use borrow.Author.Tests.{leb-true, leb-false, le-leb}
 use Rattle.message.specs.declared.Key.{Key}
 use Rattle.message.specs.declared.Message.{Message}
-use Rattle.maps.specs.Maps.{sameKey, conflict, Map, Nothing, Conflict, Held, mapOf, learned, SameMembers}
-use Rattle.maps.proofs.Tests.{test, never, key-eq}
-use Rattle.maps.proofs.Maps.{same-map, map-more}
+use Rattle.maps.specs.Maps.{sameKey, conflict, Map, Nothing, Conflict, Held, mapOf, learned}
+use Rattle.words.proofs.Tests.{test, never}
+use Rattle.maps.proofs.Tests.{key-eq}
 use Rattle.history.specs.History.{mostKeys, Event, Learn, Forget, names, isEmpty, since, keys, noRoom, answer, kept, setOf, Few}
 use Rattle.history.specs.Table.{Table, isNothing, isConflict, full, number, after}
-use Rattle.history.proofs.Follows.{conflict-is, Calls, follows, answers}
+use Rattle.history.proofs.Follows.{Calls, follows, answers}
 use Rattle.history.proofs.Keys.{has, without-le, without-one, has-keys, keys-once}
 
 -- ---- which events are answered 9
@@ -63,19 +63,6 @@ all-kept (e ∷ h) u = rw (all-kept h (u .1), not-nine h e (u .0))
 -- demand 3: what is held of a key, and the answer to an event, from the messages that name the key since its last forget
 pub demand-row : {h : List Event} {t : Table} → Calls h t → Few h → (k : Key) → t .look k ≡ mapOf (since h k)
 demand-row {h} c u k = row-is c k ∙ ap (λ (g : List Event). mapOf (since g k)) (all-kept h u)
-
-pub demand-answer : {h : List Event} {t : Table} → Calls h t → Few h → (e : Event) → number t e ≡ answer h e
-demand-answer {h} c u e = answered c e ∙ ap (λ (g : List Event). answer g e) (all-kept h u)
-
--- order, repeats and other keys don't count
-pub demand-order : {h g : List Event} {t u : Table} → Calls h t → Calls g u → Few h → Few g → (k : Key) → SameMembers (since h k) (since g k) → t .look k ≡ u .look k
-demand-order {h} {g} c d u v k same = demand-row c u k ∙ same-map (since h k) (since g k) same ∙ sym (demand-row d v k)
-
-pub same-conflict : (m : Message) (s t : List Message) → SameMembers s t → conflict (m ∷ s) ≡ conflict (m ∷ t)
-same-conflict m s t same =
-    sym (conflict-is m s)
-    ∙ ap isConflict (map-more m s ∙ ap (λ (M : Map). learned M m) (same-map s t same) ∙ sym (map-more m t))
-    ∙ conflict-is m t
 
 -- ---- an event that names another key leaves what is held of a key
 

@@ -8,7 +8,7 @@ use lib.Dec.{eqb}
 use Rattle.message.specs.declared.Key.{Key}
 use Rattle.message.specs.declared.Message.{Message}
 use Rattle.maps.specs.Maps.{conflict, Nothing, mapOf}
-use Rattle.maps.proofs.Tests.{test}
+use Rattle.words.proofs.Tests.{test}
 use Rattle.maps.proofs.Maps.{map-more}
 use Rattle.history.specs.History.{Event, Learn, Forget, isEmpty, since, keys, noRoom, answer, kept}
 use Rattle.history.specs.Table.{Table, isNothing, isConflict, full, number, after}

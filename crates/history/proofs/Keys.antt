@@ -8,7 +8,8 @@ use lib.ListN.{length}
 use Rattle.words.specs.Runs as runs
 use Rattle.message.specs.declared.Key.{Key}
 use Rattle.maps.specs.Maps.{sameKey}
-use Rattle.maps.proofs.Tests.{test, never, key-eq, key-refl}
+use Rattle.words.proofs.Tests.{test, never}
+use Rattle.maps.proofs.Tests.{key-eq, key-refl}
 use Rattle.history.specs.History.{Event, Learn, Forget, isEmpty, since, without, keys}
 
 -- the key stands in the list

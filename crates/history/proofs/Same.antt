@@ -1,14 +1,11 @@
 -- Two histories that leave the key of an event the same collection of messages answer the event alike, where at no moment more than 16 keys have
 -- messages: order, repeats and other keys don't count for a call's own answer either.
 -- Assumes nothing.
-use Prim.Native.Nat.{ℕ}
-use mathlib.Core.Path.{_≡_, refl, sym, ap, _∙_}
-use mathlib.Core.Bool.{Bool, cond}
+use mathlib.Core.Path.{_≡_, sym, ap, _∙_}
 use mathlib.Core.Logic.{⊎-elim}
-use mathlib.Core.List.{List, [], _∷_, List·Memᴰ, List·Memᴰ·head, List·Memᴰ·tail, List·Memᴰ·cases-cons}
-use Rattle.message.specs.declared.Key.{Key}
+use mathlib.Core.List.{List, _∷_, List·Memᴰ, List·Memᴰ·head, List·Memᴰ·tail, List·Memᴰ·cases-cons}
 use Rattle.message.specs.declared.Message.{Message}
-use Rattle.maps.specs.Maps.{Map, mapOf, conflict, SameMembers}
+use Rattle.maps.specs.Maps.{conflict, SameMembers}
 use Rattle.maps.proofs.Maps.{same-map}
 use Rattle.history.specs.History.{Event, Learn, Forget, subject, isEmpty, since, answer, Few}
 use Rattle.history.specs.Table.{isNothing, isConflict}

@@ -7,7 +7,8 @@ use Rattle.words.proofs.Runs.{fold-since}
 use Rattle.message.specs.declared.Key.{Key}
 use Rattle.message.specs.declared.Message.{Message}
 use Rattle.maps.specs.Maps.{Map, Nothing, mapOf, learned}
-use Rattle.maps.proofs.Tests.{test, never, key-refl}
+use Rattle.words.proofs.Tests.{test, never}
+use Rattle.maps.proofs.Tests.{key-refl}
 use Rattle.maps.proofs.Maps.{map-more}
 use Rattle.history.specs.History.{Event, Learn, Forget, names, forgets, messages, since}
 use Rattle.history.specs.Table.{step}

@@ -9,7 +9,7 @@ use Rattle.answers.specs.Answers.{Said, outcome, plain, done}
 use Rattle.splice.specs.Splice.{fits, laid}
 use Rattle.text.specs.Text.{Page, page, put}
 use Rattle.text.proofs.Pages.{Holds, nothing-yet, holds-more}
-use Rattle.maps.proofs.Tests.{test}
+use Rattle.words.proofs.Tests.{test}
 use Rattle.listing.specs.declared.Tally.{Tally}
 use Rattle.listing.specs.Page.{piecesOf, pageOf, finished, laidAll}
 use Rattle.listing.proofs.Widths.{enough}

@@ -16,7 +16,7 @@ use Rattle.dictionary.specs.Dictionary.{widthOf}
 use Rattle.message.specs.declared.Key.{Key}
 use Rattle.maps.specs.Maps.{Map, Nothing, Conflict, Held}
 use Rattle.maps.specs.Judge.{countOf, judge, measured, judgeOver}
-use Rattle.maps.proofs.Tests.{test}
+use Rattle.words.proofs.Tests.{test}
 use Rattle.maps.proofs.Rules.{Named}
 use Rattle.maps.proofs.Judged.{judged-named}
 use Rattle.history.specs.History.{mostKeys}

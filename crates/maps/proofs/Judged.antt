@@ -22,7 +22,7 @@ use Rattle.payload.proofs.Place.{apart}
 use Rattle.payload.proofs.Placed.{none-unplaced}
 use Rattle.maps.specs.Maps.{Map, Nothing, Conflict, Held}
 use Rattle.maps.specs.Judge.{Param, withWidth, measured, isNone, spnAt, startAt, widthAt, widthIn, everyone, notAbove, wrongTransport, rules, sizeOver, judgeOver, judge, usable, countOf, paramsOf, spnsOf, startsOf, widthsOf, lengthOf}
-use Rattle.maps.proofs.Tests.{never}
+use Rattle.words.proofs.Tests.{never}
 use Rattle.maps.proofs.Rules.{Ruled, Named, passed, all-passed, first-named, nameless, lowest-most}
 
 -- all that the rules ask of n parameters and a transport flag
@@ -104,10 +104,6 @@ transportOf Nothing = false
 transportOf Conflict = false
 transportOf (Held h places) = h .transport
 
--- sets with the same map have the same judgement, whatever the dictionary
-pub same-judgement : (widthOf : ℕ → ℕ) (l m : Map) → l ≡ m → judge widthOf l ≡ judge widthOf m
-same-judgement widthOf l m e = ap (judge widthOf) e
-
 pub judge-named : (widthOf : ℕ → ℕ) (m : Map) → Named (countOf m) (judge widthOf m)
 judge-named widthOf Nothing = nameless 0 0 (omega arith) (λ l m. omega arith)
 judge-named widthOf Conflict = nameless 0 1 (omega arith) (λ l m. omega arith)
@@ -128,9 +124,6 @@ module _ (widthOf : ℕ → ℕ) where
 
   module _ (m : Map) where
     -- the lists by index
-    pub spn-at : (i : ℕ) → i < countOf m → getD (spnsOf widthOf m) i 0 ≡ spnAt (paramsOf widthOf m) i
-    spn-at i h = get-tabulate _ (countOf m) i h
-
     pub start-at : (i : ℕ) → i < countOf m → getD (startsOf widthOf m) i 0 ≡ startAt (paramsOf widthOf m) i
     start-at i h = get-tabulate _ (countOf m) i h
 

@@ -12,7 +12,8 @@ use Rattle.message.specs.declared.Head.{Head}
 use Rattle.message.specs.declared.Place.{Place}
 use Rattle.message.specs.declared.Message.{Message}
 use Rattle.maps.specs.Maps.{sameHead, samePlace, contradicts, someOf, conflict, placeAt, Map, Nothing, Conflict, Held, mapOf, Contradiction, Says, IsMap, agrees, put, fits, learned, SameMembers}
-use Rattle.maps.proofs.Tests.{test, never, and-false-cases, eqb-same, head-eq, place-eq, clash-head, clash-place, agree, no-clash}
+use Rattle.words.proofs.Tests.{test, never}
+use Rattle.maps.proofs.Tests.{and-false-cases, eqb-same, head-eq, place-eq, clash-head, clash-place, agree, no-clash}
 
 -- ---- sets with the same members have one map
 

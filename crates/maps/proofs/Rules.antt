@@ -12,7 +12,7 @@ use Rattle.answers.specs.Answers.{Judged, at}
 use Rattle.payload.specs.Bits.{lowest}
 use Rattle.payload.proofs.Below.{lowest-same}
 use Rattle.maps.specs.Judge.{firstNamed}
-use Rattle.maps.proofs.Tests.{test}
+use Rattle.words.proofs.Tests.{test}
 
 -- no rule of the list names a position
 abbrev pub Passed : List Judged → Type 0

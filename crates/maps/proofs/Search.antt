@@ -12,10 +12,10 @@ use borrow.Author.Count.{below-more}
 use borrow.Author.Tests.{leb-false, eqb-false}
 use lib.Dec.{leb}
 use Rattle.payload.specs.Bits.{any, lowest}
-use Rattle.payload.specs.Place.{sharesBit, sharesEarlier}
+use Rattle.payload.specs.Place.{sharesBit}
 use Rattle.maps.specs.Judge.{everyone, unknown, notAbove, overlaps}
 use Rattle.payload.proofs.Below.{lowest-at, lowest-none, lowest-each}
-use Rattle.payload.proofs.Previous.{by-previous}
+use Rattle.payload.proofs.Previous.{sharesEarlier, by-previous}
 
 -- no index below i passes the test
 abbrev pub None : (ℕ → Bool) → ℕ → Type 0

@@ -13,7 +13,7 @@ use Rattle.payload.specs.Place.{endOf, endIn, endTo, bytesFor, sizeOf}
 use Rattle.payload.proofs.Below.{lowest-each, lowest-none}
 use Rattle.payload.proofs.Bits.{length-tabulate, get-tabulate}
 use Rattle.maps.specs.Judge.{Param, everyone, missing, unknown, repeated, notAbove, overlaps, beyond, wrongTransport, firstNamed, sizeOver, judgeOver, marked, numberAt, inSlices}
-use Rattle.maps.proofs.Tests.{test}
+use Rattle.words.proofs.Tests.{test}
 use Rattle.maps.proofs.Rules.{stop, lowest-equal}
 use Rattle.maps.proofs.Within.{judged-same}
 

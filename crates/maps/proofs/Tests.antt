@@ -1,23 +1,16 @@
 -- What the tests of specs/ tell of the records that they compare, and of two messages. Assumes nothing.
 use Prim.Native.Nat.{ℕ}
-use mathlib.Core.Path.{_≡_, refl, sym, _∙_}
+use mathlib.Core.Path.{_≡_, refl, sym}
 use mathlib.Core.Logic.{_⊎_, inl, inr}
-use mathlib.Core.Bool.{Bool, true, false, _&&_, Bool·beq, and-eq-true-iff, or-true, and-false, true≢false}
+use mathlib.Core.Bool.{Bool, true, false, _&&_, Bool·beq, and-eq-true-iff, or-true, and-false}
 use borrow.Author.Tests.{eqb-true, eq-eqb}
 use lib.Dec.{eqb}
+use Rattle.words.proofs.Tests.{test, never}
 use Rattle.message.specs.declared.Key.{Key}
 use Rattle.message.specs.declared.Head.{Head}
 use Rattle.message.specs.declared.Place.{Place}
 use Rattle.message.specs.declared.Message.{Message}
 use Rattle.maps.specs.Maps.{sameKey, sameHead, samePlace, contradicts}
-
--- a test by its two answers, each with its equation
-pub test {ℓ} : {X : Type ℓ} (b : Bool) → (b ≡ true → X) → (b ≡ false → X) → X
-test true f g = f refl
-test false f g = g refl
-
-pub never {ℓ} : {X : Type ℓ} {b : Bool} → b ≡ true → b ≡ false → X
-never t f = absurd (true≢false (sym t ∙ f))
 
 pub and-false-cases : (a b : Bool) → a && b ≡ false → (a ≡ false) ⊎ (b ≡ false)
 and-false-cases true b e = inr e

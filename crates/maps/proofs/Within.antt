@@ -33,9 +33,6 @@ module _ (n : ℕ) (ps qs : ℕ → Option Param) (same : (i : ℕ) → i < n �
   width-same : (i : ℕ) → i < n → widthAt ps i ≡ widthAt qs i
   width-same i l = ap widthIn (same i l)
 
-  pub spns-same : tabulate (spnAt ps) n ≡ tabulate (spnAt qs) n
-  spns-same = tabulate-equal _ _ n spn-same
-
   pub starts-same : tabulate (startAt ps) n ≡ tabulate (startAt qs) n
   starts-same = tabulate-equal _ _ n start-same
 

@@ -1,7 +1,7 @@
 // Judging a map that stands in plain slices of SPNs, starts and widths (01, "A set and its judgement"). The slices may have any length and
 // hold anything; what they stand for is `inSlices`.
 ghost use mathlib.Core.Path.{_≡_};
-ghost use Prim.Native.Nat.{ℕ, _+_, _<_, max};
+ghost use Prim.Native.Nat.{_+_, _<_, max};
 ghost use lib.ListN.{getD};
 ghost use Rattle.answers.specs.Answers.{saidOf};
 ghost use Rattle.payload.specs.Bits.{lowest};

@@ -4,13 +4,12 @@ use Prim.Native.Nat.{ℕ}
 use mathlib.Core.Path.{_≡_, refl, sym, ap, _∙_}
 use mathlib.Core.Bool.{Bool, true, false, cond, not, _&&_, true≢false}
 use mathlib.Core.List.{List, [], _∷_}
-use mathlib.Core.Option.{Option, none, some}
+use mathlib.Core.Option.{none}
 use lib.Dec.{T, eqb}
 use borrow.Author.Tests.{eq-eqb, ne-eqb}
 use Rattle.frame.specs.declared.Fields.{Fields}
 use Rattle.message.specs.declared.Wire.{Wire}
-use Rattle.message.specs.declared.Message.{Message}
-use Rattle.message.specs.Message.{Test, firstOf, frameTests, dataTests, refusalOf, messageOf, Heard, heardFrom}
+use Rattle.message.specs.Message.{Test, firstOf, frameTests, dataTests, refusalOf, Heard, heardFrom}
 
 -- no test gives the number 0, which stands for "none applies"
 abbrev pub numbered : List Test → Bool

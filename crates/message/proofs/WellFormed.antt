@@ -1,22 +1,22 @@
 -- What a well-formed message is: exactly when a frame is one, the ranges of its fields, and what it doesn't depend on.
 -- Assumes nothing.
 use Prim.Native.Nat.{ℕ, _+_, _-_, _*_, _/_, _%_, _^_, _≤_, _<_}
-use mathlib.Core.Path.{_≡_, refl, sym, ap, ap₂, _∙_}
+use mathlib.Core.Path.{_≡_, refl, sym, ap, _∙_}
 use mathlib.Core.Logic.{_↔_}
 use mathlib.Core.Bool.{Bool, true, false, cond, not, _&&_, _||_, true≢false}
 use mathlib.Core.List.{List, [], _∷_}
 use mathlib.Core.Option.{Option, none, some, Option·none-ne-some, Option·some-injective}
-use lib.Dec.{T, eqb, leb, ltb}
+use lib.Dec.{T, eqb, ltb}
 use lib.ListN.{getD}
 use native.Mathlib.Omega.{arith}
 use native.Mathlib.Decide.{ℕ-discrete}
 use native.Mathlib.Nat.{mod-eq-of-lt}
 use borrow.Author.Tests.{eq-eqb, ne-eqb, eqb-true, eqb-false, ltb-false, leb-false, le-ltb, lt-leb, not-false}
 use Rattle.frame.specs.declared.Fields.{Fields}
-use Rattle.frame.specs.Frame.{fieldsOf, pgnOf, destinationOf}
+use Rattle.frame.specs.Frame.{fieldsOf, pgnOf}
 use Rattle.message.specs.declared.Wire.{Wire}
 use Rattle.message.specs.declared.Message.{Message}
-use Rattle.message.specs.Message.{Test, firstOf, wireOf, foreign, unflagged, miscounted, misplaced, frameTests, dataTests, refusalOf, messageOf, Heard, heardFrom, heard}
+use Rattle.message.specs.Message.{Test, firstOf, wireOf, frameTests, dataTests, refusalOf, messageOf, heard}
 use Rattle.message.proofs.Tests.{numbered, passed, stopped}
 
 -- none of the tests applies

@@ -10,9 +10,9 @@ use native.Mathlib.Decide.{decLt}
 use native.Mathlib.Omega.{arith}
 use lib.ListN.{length, getD}
 use Rattle.payload.specs.Bits.{bitOf, laid, meet, runAt}
-use Rattle.payload.specs.Place.{place, endOf, sharesBit, sharesEarlier, placeIn, endIn, endTo, bytesFor, sizeOf}
+use Rattle.payload.specs.Place.{place, endOf, sharesBit, placeIn, endIn, endTo, bytesFor, sizeOf}
 use Rattle.payload.specs.Payload.{readNumber, Apart}
-use Rattle.payload.proofs.Below.{any-each, meet-each}
+use Rattle.payload.proofs.Below.{meet-each}
 
 -- ---- what the laws of payloads rest on
 place-one : (s w j k : ℕ) → j < w → k < w → place s w j ≡ place s w k → j ≡ k
@@ -84,7 +84,3 @@ module _ (ss ws : List ℕ) where
         where
           same : i ≡ j → (i ≡ j) × (k ≡ l)
           same q = (q, place-one (getD ss i 0) (getD ws i 0) k l hk (rw q hl) (e ∙ ap (λ (x : ℕ). placeIn ss ws x l) (sym q)))
-
-  pub apart-earlier : ((i : ℕ) → i < length ss → sharesEarlier (λ k. getD ss k 0) (λ k. getD ws k 0) i ≡ false) → Apart ss ws
-  unfolding sharesEarlier
-  apart-earlier h = apart (λ i j l m. any-each _ j (h j m) i l)

@@ -10,9 +10,9 @@ use native.Mathlib.Decide.{decLt, ℕ-discrete}
 use native.Mathlib.Omega.{arith}
 use borrow.Author.Tests.{lt-ltb, le-ltb, ltb-false}
 use lib.Dec.{ltb}
-use Rattle.payload.specs.Bits.{any, lowest}
-use Rattle.payload.specs.Place.{endOf, sharesBit, sharesEarlier}
-use Rattle.payload.proofs.Below.{any-at, any-none, any-each, lowest-same}
+use Rattle.payload.specs.Bits.{any}
+use Rattle.payload.specs.Place.{endOf, sharesBit}
+use Rattle.payload.proofs.Below.{any-at, any-none, any-each}
 use Rattle.payload.proofs.Run.{runs-meet}
 use Rattle.payload.proofs.Place.{shares-run, end-run}
 
@@ -24,10 +24,9 @@ later-shares s1 w1 s2 w2 h l = sym (shares-run s1 w1 s2 w2) ∙ runs-meet s1 w1 
     go (yes m) = rw (end-run s1 w1, lt-ltb 0 w1 m, lt-ltb 0 w2 l, lt-ltb s1 (s2 + w2) (omega arith))
     go (no m) = rw (le-ltb 0 w1 (omega arith)) (sym (le-ltb s2 (endOf s1 w1) (omega (arith, end-run s1 w1))))
 
--- whether the parameter at an index shares a bit with the one before it
-abbrev pub sharesPrevious : (ℕ → ℕ) → (ℕ → ℕ) → ℕ → Bool
-sharesPrevious s w zero = false
-sharesPrevious s w (suc i) = sharesBit (s i) (w i) (s (suc i)) (w (suc i))
+-- whether the parameter at index i shares a bit with an earlier one, where index j has the start s j and the width w j
+unfoldable pub sharesEarlier : (ℕ → ℕ) → (ℕ → ℕ) → ℕ → Bool
+sharesEarlier s w i = any (λ j. sharesBit (s j) (w j) (s i) (w i)) i
 
 -- the first n starts rise, and each of these parameters has a bit
 module _ (s w : ℕ → ℕ) (n : ℕ) (rise : (i : ℕ) → i + 1 < n → s i < s (i + 1)) (some : (i : ℕ) → i < n → 1 ≤ w i) where
@@ -69,12 +68,3 @@ module _ (s w : ℕ → ℕ) (n : ℕ) (rise : (i : ℕ) → i + 1 < n → s i <
                 | yes r ↦ rw r e
                 | no r ↦ any-each _ (k + 1) (h (k + 1) (omega arith)) k (omega arith)
               ]
-
-  -- the lowest position that shares a bit with any earlier one is the lowest that shares a bit with the previous one
-  pub previous-lowest : lowest (sharesEarlier s w) n ≡ lowest (sharesPrevious s w) n
-  unfolding sharesEarlier any
-  previous-lowest = lowest-same (sharesEarlier s w) (sharesPrevious s w) n at
-    where
-      at : (i : ℕ) → i < n → ((k : ℕ) → k < i → sharesEarlier s w k ≡ false) → sharesEarlier s w i ≡ sharesPrevious s w i
-      at zero l h = refl
-      at (suc i) l h = rw add-one at (by-previous i (rw add-one l) (λ j m. h j (omega arith)))

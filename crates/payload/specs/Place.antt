@@ -19,10 +19,6 @@ endOf start width = start + width
 unfoldable pub sharesBit : ℕ → ℕ → ℕ → ℕ → Bool
 sharesBit s1 w1 s2 w2 = meet (place s1 w1) w1 (place s2 w2) w2
 
--- 01's judgement 6: "it shares a bit with an earlier one", of the index i, where index j has the start s j and the width w j
-unfoldable pub sharesEarlier : (ℕ → ℕ) → (ℕ → ℕ) → ℕ → Bool
-sharesEarlier s w i = any (λ j. sharesBit (s j) (w j) (s i) (w i)) i
-
 -- the place of bit k of the number at index i of a map
 abbrev pub placeIn : List ℕ → List ℕ → ℕ → ℕ → ℕ
 placeIn ss ws i k = place (getD ss i 0) (getD ws i 0) k

@@ -3,16 +3,16 @@
 use mathlib.Core.Path.{_≡_, refl, sym, ap, _∙_}
 use mathlib.Core.Bool.{true, false, cond, and-eq-true-iff, true≢false}
 use mathlib.Core.List.{List, [], _∷_}
-use Prim.Native.Nat.{ℕ, zero, suc, _+_, _*_, _<_, _≤_}
+use Prim.Native.Nat.{ℕ, _+_, _*_, _<_, _≤_}
 use native.Mathlib.Decide.{ℕ-discrete}
 use native.Mathlib.Omega.{arith}
 use borrow.Author.Tests.{ltb-true, eqb-true, eq-eqb, ne-eqb, le-ltb}
 use lib.Dec.{eqb}
-use lib.ListN.{length, getD, replicate, length-replicate}
+use lib.ListN.{length, getD, length-replicate}
 use Rattle.words.specs.Rows.{rowAt, putAt}
 use Rattle.words.specs.Runs.{only, fold, Keyed}
 use Rattle.words.proofs.Tests.{test}
-use Rattle.words.proofs.Rows.{length-rowAt, rowAt-getD, length-putAt, rowAt-putAt, rowAt-putAt-other, putAt-same}
+use Rattle.words.proofs.Rows.{length-rowAt, rowAt-getD, length-putAt, rowAt-putAt, rowAt-putAt-other, putAt-same, zeros}
 use Rattle.words.proofs.Runs.{own-events, kept-all}
 use Rattle.answers.specs.Answers.{plain}
 use Rattle.ports.specs.declared.Command.{Command}
@@ -31,11 +31,6 @@ pub record Sound (w : List ℕ) : Type 0 where
   pub rows : (i : ℕ) → i < 12 → Tidy (rowAt 34 w i)
 
 -- fresh words: each row is a fresh pair
-zeros : (n k : ℕ) → _≡_ {A = ℕ} (getD (replicate n 0) k 0) 0
-zeros zero k = refl
-zeros (suc n) zero = refl
-zeros (suc n) (suc k) = zeros n k
-
 fresh-long : length freshWords ≡ 408
 fresh-long = ap length (sym (all-fresh 408 refl)) ∙ length-replicate {A = ℕ} 408 0
 

@@ -1,14 +1,13 @@
 -- A record and its 13 bytes: each undoes the other. Assumes nothing.
-use Prim.Native.Nat.{ℕ, _+_, _*_, _/_, _%_, _^_, _≤_}
-use mathlib.Core.Path.{_≡_, refl, sym, ap, _∙_}
+use Prim.Native.Nat.{ℕ, _+_, _/_, _%_, _≤_}
+use mathlib.Core.Path.{_≡_}
 use mathlib.Core.Bool.{Bool, cond}
 use mathlib.Core.List.{List, [], _∷_, _++_}
 use native.Mathlib.Omega.{arith}
-use lib.ListN.{length, getD, length-append}
+use lib.ListN.{length, length-append}
 use borrow.Author.Tests.{le-ltb}
 use Rattle.answers.specs.Answers.{Said, outcome, plain}
 use Rattle.splice.specs.Splice.{fits, laid}
-use Rattle.record.specs.declared.Record.{Record}
 use Rattle.record.specs.Record.{fourOf, recordIn, bytesOf, written}
 
 -- what `write` has done, from what its callees say

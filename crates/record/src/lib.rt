@@ -1,6 +1,5 @@
 // The 13 bytes of a record of a log (01, "The listing program"): identifier least significant byte first, length, 8 data bytes.
 ghost use mathlib.Core.Path.{_≡_};
-ghost use mathlib.Core.List.{List};
 ghost use Rattle.answers.specs.Answers.{outcome, inNumbers};
 ghost use Rattle.record.specs.Record.{fourOf, recordIn, bytesOf, written};
 use answers::Answer;

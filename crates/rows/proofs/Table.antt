@@ -6,7 +6,7 @@ use mathlib.Core.List.{List, [], _∷_, map}
 use lib.Dec.{T}
 use lib.ListN.{length}
 use Rattle.rows.specs.declared.Row.{Row}
-use Rattle.rows.specs.Rows.{row, ruled, rowCount, table, pair, pairs, rowsOf}
+use Rattle.rows.specs.Rows.{ruled, rowCount, table, pair, pairs, rowsOf}
 
 pub size : length table ≡ rowCount
 unfolding table

@@ -1,13 +1,13 @@
 -- Laws of bytes laid over others: what a copying loop does, and what a part that was lent and came back is. Assumes nothing.
 use mathlib.Core.Path.{_≡_, refl, sym, ap, _∙_}
 use mathlib.Core.List.{List, [], _∷_, _++_, append-assoc, append-nil}
-use mathlib.Core.Bool.{Bool, true, false}
+use mathlib.Core.Bool.{true, false}
 use Prim.Native.Nat.{ℕ, zero, suc, _+_, _-_, _≤_, _<_}
-use native.Mathlib.Nat.{add-zero, add-assoc, le-of-suc-le-suc, not-suc-le-zero}
+use native.Mathlib.Nat.{add-assoc, le-of-suc-le-suc, not-suc-le-zero}
 use native.Mathlib.Numerals.{add-one}
 use native.Mathlib.Omega.{arith}
-use lib.ListN.{length, getD, take, drop, set, length-append, length-take, length-drop, length-set, drop-of-length-le, take-append-drop}
-use lib.Seq.{drop-nil, length-take-le, take-add, take-append-seam, drop-append-seam, take-all, take-append-add, take-append-le, drop-append-add, drop-drop, take-at, drop-at}
+use lib.ListN.{length, getD, take, drop, set, length-append, length-take, length-drop, drop-of-length-le}
+use lib.Seq.{drop-nil, length-take-le, take-add, take-append-seam, drop-append-seam, take-all, drop-append-add, drop-drop, take-at}
 use Rattle.splice.specs.Splice.{splice, over, fits, laid}
 use borrow.Author.Tests.{le-leb, lt-leb}
 
@@ -56,9 +56,6 @@ lay-part l at k x y e h q =
 pub laid-is : (l : List ℕ) (at : ℕ) (x : List ℕ) → at + length x ≤ length l → (true ≡ fits l at x) × (splice l at x ≡ laid l at x)
 laid-is l at x h = let e = le-leb (at + length x) (length l) h in (sym e, rw e)
 
-pub splice-none : (l : List ℕ) (at : ℕ) → l ≡ splice l at []
-splice-none l at = sym (rw add-zero (take-append-drop at l))
-
 pub length-splice : (l : List ℕ) (at : ℕ) (x : List ℕ) → at + length x ≤ length l → length (splice l at x) ≡ length l
 length-splice l at x h = simp (length-append, length-take, length-drop) (omega arith)
 
@@ -85,11 +82,3 @@ grow l s k X x y out e d a h =
     let f = splice-next l s (take k X) x (omega (arith, n)) in
     let q = laid-is (splice l s (take k X)) (s + k) x (omega (arith, length-splice l s (take k X) (omega (arith, n)))) in
     (rw e (sym (q .1) ∙ ap (λ (j : ℕ). splice (splice l s (take k X)) (s + j) x) (sym n) ∙ f ∙ ap (splice l s) t), sym (drop-drop (length x) k X) ∙ rw (d, drop-append-seam x y), b)
-
--- the same where the part ran to the list's end
-pub lay-rest : (l : List ℕ) (at : ℕ) (x y : List ℕ) → at + length x ≤ length l → y ≡ over (take (length l - at) (drop at l)) x
-    → take at l ++ (y ++ drop (length l - at) (drop at l)) ≡ splice l at x
-lay-rest l at x y h q =
-    let n : length (drop at l) ≤ length l - at = omega (arith, length-drop at l) in
-    let m : length x ≤ length (drop at l) = omega (arith, length-drop at l) in
-    rw (q, take-all (length l - at) (drop at l) n, drop-of-length-le (drop at l) {i = length l - at} n, take-all (length (drop at l)) x m, append-nil, drop-drop (length x) at l)

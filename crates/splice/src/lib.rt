@@ -1,8 +1,7 @@
 // Bytes laid into a lent buffer, from a given byte on and nowhere else.
 ghost use mathlib.Core.Path.{_≡_};
-ghost use Prim.Native.Nat.{_+_, _≤_};
-ghost use lib.ListN.{length};
-ghost use Rattle.splice.specs.Splice.{splice, over, fits, laid};
+ghost use Prim.Native.Nat.{_+_};
+ghost use Rattle.splice.specs.Splice.{over, fits, laid};
 
 // Copies src over the start of dst, as far as both reach.
 pub fn copy_in(dst: &mut [u8], src: &[u8])

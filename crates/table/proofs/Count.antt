@@ -12,7 +12,8 @@ use Rattle.words.specs.Slots.{Distinct}
 use Rattle.words.proofs.First.{first-below}
 use Rattle.message.specs.declared.Key.{Key}
 use Rattle.maps.specs.Maps.{sameKey, Nothing}
-use Rattle.maps.proofs.Tests.{test, never, key-eq, key-refl}
+use Rattle.words.proofs.Tests.{test, never}
+use Rattle.maps.proofs.Tests.{key-eq, key-refl}
 use Rattle.history.specs.History.{mostKeys}
 use Rattle.history.specs.Table.{Table, isNothing}
 use Rattle.history.proofs.Keys.{has, Once, same-count}

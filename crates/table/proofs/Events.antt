@@ -10,7 +10,8 @@ use lib.ListN.{length}
 use Rattle.message.specs.declared.Key.{Key}
 use Rattle.message.specs.declared.Message.{Message}
 use Rattle.maps.specs.Maps.{sameKey, learned}
-use Rattle.maps.proofs.Tests.{test, never, key-eq, key-refl}
+use Rattle.words.proofs.Tests.{test, never}
+use Rattle.maps.proofs.Tests.{key-eq, key-refl}
 use Rattle.answers.specs.Answers.{Outcome, plain}
 use Rattle.history.specs.History.{mostKeys, Event, Learn, Forget, subject, names}
 use Rattle.history.specs.Table.{isNothing, full, number, after}

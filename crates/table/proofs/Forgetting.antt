@@ -11,7 +11,7 @@ use Rattle.words.proofs.First.{first-none, first-same}
 use Rattle.words.proofs.Rows.{length-putAt}
 use Rattle.message.specs.declared.Key.{Key}
 use Rattle.maps.specs.Maps.{Nothing}
-use Rattle.maps.proofs.Tests.{test}
+use Rattle.words.proofs.Tests.{test}
 use Rattle.history.specs.History.{mostKeys}
 use Rattle.answers.specs.Answers.{outcome, plain}
 use Rattle.table.specs.Layout.{rowWords, tableWords, keyNumber, rowIs, rowOf, slotOf}

@@ -10,7 +10,7 @@ use Rattle.message.specs.declared.Key.{Key}
 use Rattle.message.specs.declared.Message.{Message}
 use Rattle.message.specs.Message.{heard}
 use Rattle.maps.specs.Maps.{Nothing}
-use Rattle.maps.proofs.Tests.{test}
+use Rattle.words.proofs.Tests.{test}
 use Rattle.history.specs.History.{mostKeys, Event}
 use Rattle.history.proofs.Follows.{Calls, start, call}
 use Rattle.table.specs.Layout.{keyNumber, rowIs, rowOf, slotOf}

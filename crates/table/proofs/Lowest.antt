@@ -10,7 +10,7 @@ use lib.Dec.{eqb, leb, ltb, lit<}
 use lib.ListN.{length, getD}
 use Rattle.words.specs.First.{first}
 use Rattle.words.proofs.First.{first-at, first-none}
-use Rattle.maps.proofs.Tests.{test, never}
+use Rattle.words.proofs.Tests.{test, never}
 use Rattle.history.specs.History.{mostKeys}
 use Rattle.table.specs.Layout.{rowWords, tableWords, keyNumbers, stateWord, keyWord, rowIs, rowOf, slotOf}
 use Rattle.table.specs.Next.{isHeld, lowestFrom}

@@ -11,7 +11,7 @@ use lib.ListN.{length, set}
 use Rattle.words.proofs.Rows.{set-row-head, putAt-same}
 use Rattle.message.specs.declared.Message.{Message}
 use Rattle.message.specs.Message.{heard}
-use Rattle.maps.proofs.Tests.{test}
+use Rattle.words.proofs.Tests.{test}
 use Rattle.history.specs.History.{mostKeys}
 use Rattle.table.specs.Layout.{rowWords, tableWords, keyNumber, stateWord, rowOf, slotOf, freeSlot}
 use Rattle.table.specs.Learn.{rowFits, learnRow, learnMessage, taught, learnt}

@@ -1,6 +1,6 @@
 -- One row as a map: the numbers in its words come apart again, and one message more makes of its map what `learned` says. On any words.
 -- Assumes nothing.
-use Prim.Native.Nat.{ℕ, zero, suc, _+_, _-_, _*_, _/_, _%_, _^_, _≤_, _<_}
+use Prim.Native.Nat.{ℕ, _+_, _-_, _*_, _/_, _%_, _^_, _≤_, _<_}
 use native.Mathlib.Omega.{arith}
 use mathlib.Core.Path.{_≡_, refl, sym, ap, _∙_, fun-ext}
 use mathlib.Core.Bool.{Bool, true, false, cond, _||_}
@@ -8,13 +8,15 @@ use mathlib.Core.Option.{Option, none, some, Option·some-injective}
 use mathlib.Core.List.{List}
 use borrow.Author.Tests.{eqb-true, eq-eqb, ne-eqb, eqb-false, le-leb, leb-true}
 use lib.Dec.{eqb, leb}
-use lib.ListN.{length, getD, set, replicate}
+use lib.ListN.{length, set, replicate}
 use lib.Seq.{getD-set-same, getD-set-other}
 use Rattle.message.specs.declared.Head.{Head}
 use Rattle.message.specs.declared.Place.{Place}
 use Rattle.message.specs.declared.Message.{Message}
 use Rattle.maps.specs.Maps.{sameHead, samePlace, Nothing, Conflict, Held, agrees, put, fits, learned}
-use Rattle.maps.proofs.Tests.{test, never, head-eq, head-refl, place-eq, place-refl}
+use Rattle.words.proofs.Rows.{zeros}
+use Rattle.words.proofs.Tests.{test, never}
+use Rattle.maps.proofs.Tests.{head-eq, head-refl, place-eq, place-refl}
 use Rattle.answers.specs.Answers.{plain}
 use Rattle.history.specs.Table.{isConflict}
 use Rattle.table.specs.Layout.{positions, rowWords, bitOf, formNumber, cellNumber, keyNumber, stateWord, formWord, cellWord}
@@ -163,11 +165,6 @@ module _ (m : Message) (fit : InRow m) where
         (λ n. rw (n, conflict-step n))
 
 -- ---- the first message
-
-pub zeros : (n i : ℕ) → _≡_ {A = ℕ} (getD (replicate n 0) i 0) 0
-zeros zero i = refl
-zeros (suc n) zero = refl
-zeros (suc n) (suc i) = zeros n i
 
 -- a row with no cell
 abbrev bare : Message → List ℕ

@@ -5,7 +5,7 @@ use Prim.Native.Nat.{ℕ, _≤_}
 use native.Mathlib.Omega.{arith}
 use mathlib.Core.Path.{_≡_, refl, sym, ap, _∙_}
 use mathlib.Core.Logic.{_↔_}
-use mathlib.Core.Bool.{Bool, cond, not}
+use mathlib.Core.Bool.{not}
 use mathlib.Core.Option.{Option, none, some}
 use mathlib.Core.List.{List, [], _∷_}
 use lib.ListN.{length}
@@ -13,8 +13,7 @@ use Rattle.words.specs.Runs as runs
 use Rattle.message.specs.declared.Key.{Key}
 use Rattle.message.specs.declared.Message.{Message}
 use Rattle.message.specs.Message.{heard}
-use Rattle.maps.specs.Maps.{conflict, mapOf, SameMembers}
-use Rattle.maps.proofs.Maps.{same-map}
+use Rattle.maps.specs.Maps.{mapOf}
 use Rattle.answers.specs.Answers.{Said, plain}
 use Rattle.history.specs.History.{mostKeys, Event, Learn, Forget, isEmpty, since, keys, answer, kept, setOf, Few}
 use Rattle.history.proofs.Keys.{has, Once, has-keys, keys-once}
@@ -116,10 +115,6 @@ module _ (cs : List Call) (ok : AllCarried cs) where
         frame-answer id len d bytes ∙ ap (λ (h : List Event). plain (frameAnswer h id len d)) (demand.all-kept (happened cs) few)
 
     -- to a message that keeps within 16 keys: 10 where the messages since the last forget, with it, are in conflict, else 0
-    pub demand-learn : (id len : ℕ) (d : List ℕ) → Carried (Frame id len d) → (m : Message) → heard id len d .message ≡ some m → length (keys (Learn m ∷ happened cs)) ≤ mostKeys
-        → learnt (run cs) id len d .answer ≡ plain (cond (conflict (m ∷ since (happened cs) (m .key))) 10 0)
-    demand-learn id len d bytes m e room = demand-frame id len d bytes ∙ rw (e, demand.room (happened cs) m room)
-
     pub demand-forget : (k : Key) → InBytes k → forgotten (run cs) (keyNumber k) .answer ≡ plain (answer (happened cs) (Forget k))
     demand-forget k b = forget-answer k b ∙ ap (λ (h : List Event). plain (answer h (Forget k))) (demand.all-kept (happened cs) few)
 
@@ -131,27 +126,6 @@ unfolding happened
 room-again cs ok k b held id len d bytes q =
     let (m, e, new, full) = nine (Forgets k ∷ cs) (b, ok) id len d bytes .0 q in
     omega (arith, count-is (Forgets k ∷ cs) (b, ok), full, demand.one-less (happened cs) k held, demand.at-most (happened cs))
-
--- ---- order, repeats and other keys don't count
-
-module _ (cs ds : List Call) (ok : AllCarried cs) (ok′ : AllCarried ds) (k : Key) (b : InBytes k) where
-  -- two runs that leave a key the same set, whatever came before, between and to other keys, leave it the same map
-  pub same-set : SameMembers (setOf (happened cs) k) (setOf (happened ds) k) → mapIn (run cs) k ≡ mapIn (run ds) k
-  same-set same = map-is cs ok k b ∙ same-map (setOf (happened cs) k) (setOf (happened ds) k) same ∙ sym (map-is ds ok′ k b)
-
-  pub demand-order : Few (happened cs) → Few (happened ds) → SameMembers (since (happened cs) k) (since (happened ds) k) → mapIn (run cs) k ≡ mapIn (run ds) k
-  demand-order few few′ same =
-      demand-map cs ok few k b ∙ same-map (since (happened cs) k) (since (happened ds) k) same ∙ sym (demand-map ds ok′ few′ k b)
-
--- and a message that comes next gets the same answer
-pub same-answer : (cs ds : List Call) → AllCarried cs → AllCarried ds → Few (happened cs) → Few (happened ds)
-    → (id len : ℕ) (d : List ℕ) → Carried (Frame id len d) → (m : Message) → heard id len d .message ≡ some m
-    → length (keys (Learn m ∷ happened cs)) ≤ mostKeys → length (keys (Learn m ∷ happened ds)) ≤ mostKeys
-    → SameMembers (since (happened cs) (m .key)) (since (happened ds) (m .key)) → learnt (run cs) id len d .answer ≡ learnt (run ds) id len d .answer
-same-answer cs ds ok ok′ few few′ id len d bytes m e room room′ same =
-    demand-learn cs ok few id len d bytes m e room
-    ∙ ap (λ (b : Bool). plain (cond b 10 0)) (demand.same-conflict m (since (happened cs) (m .key)) (since (happened ds) (m .key)) same)
-    ∙ sym (demand-learn ds ok′ few′ id len d bytes m e room′)
 
 -- ---- a call that does not name a key leaves its map, whatever the words are
 

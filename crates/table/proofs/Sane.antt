@@ -9,9 +9,9 @@ use lib.ListN.{length, set, length-replicate}
 use lib.Seq.{getD-set-same}
 use Rattle.words.specs.Slots.{Distinct}
 use Rattle.words.proofs.Slots.{put-distinct, not-else}
-use Rattle.words.proofs.Rows.{length-putAt}
+use Rattle.words.proofs.Rows.{length-putAt, zeros}
 use Rattle.message.specs.declared.Message.{Message}
-use Rattle.maps.proofs.Tests.{test, never}
+use Rattle.words.proofs.Tests.{test, never}
 use Rattle.history.specs.History.{mostKeys}
 use Rattle.table.specs.Layout.{rowWords, tableWords, keyNumber, keyNumbers, stateWord, keyWord, rowIs, rowOf, putRow, slotOf, freeSlot}
 use Rattle.table.specs.Learn.{emptyTable, learnRow, newRow, learnMessage}
@@ -19,7 +19,6 @@ use Rattle.table.specs.Forget.{freeTo, forgotten}
 use Rattle.table.specs.Calls.{InBytes}
 use Rattle.table.proofs.Words.{row-length, row-state, put}
 use Rattle.table.proofs.RowKeys.{is-held, held-is, free-is, learnRow-key, learnRow-length, newRow-key, newRow-length}
-use Rattle.table.proofs.RowMaps.{zeros}
 use Rattle.table.proofs.Learning.{is-at, under, into-row, into-free, no-room}
 use Rattle.table.proofs.Forgetting.{rowWithout, freed-words, freed-row, held-before, not-held}
 use Rattle.table.proofs.KeyNumbers.{below-all}

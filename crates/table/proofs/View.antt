@@ -8,7 +8,7 @@ use lib.Dec.{eqb, ltb}
 use Rattle.words.specs.Slots as slots
 use Rattle.message.specs.declared.Key.{Key}
 use Rattle.maps.specs.Maps.{Map, Nothing, Conflict, Held}
-use Rattle.maps.proofs.Tests.{test}
+use Rattle.words.proofs.Tests.{test}
 use Rattle.history.specs.History.{mostKeys}
 use Rattle.history.specs.Table.{isNothing}
 use Rattle.table.specs.Layout.{keyNumber, stateWord, formWord, rowIs, rowOf, slotOf}

@@ -10,7 +10,8 @@ use lib.Dec.{eqb, leb}
 use Rattle.words.proofs.First.{first-holds, first-below}
 use Rattle.message.specs.declared.Key.{Key}
 use Rattle.maps.specs.Maps.{sameKey}
-use Rattle.maps.proofs.Tests.{test, never, key-eq, key-refl}
+use Rattle.words.proofs.Tests.{test, never}
+use Rattle.maps.proofs.Tests.{key-eq, key-refl}
 use Rattle.history.specs.History.{mostKeys}
 use Rattle.history.specs.Table.{isNothing}
 use Rattle.history.proofs.Keys.{has, Once}

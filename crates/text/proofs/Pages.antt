@@ -2,12 +2,12 @@
 use Prim.Native.Nat.{ℕ, _+_, _≤_}
 use mathlib.Core.Path.{_≡_, refl, sym, ap, _∙_}
 use mathlib.Core.Bool.{true, false}
-use mathlib.Core.List.{List, [], _∷_, _++_, append-assoc}
+use mathlib.Core.List.{List, [], _++_, append-assoc}
 use native.Mathlib.Omega.{arith}
 use borrow.Author.Tests.{le-leb}
-use lib.ListN.{length, take, drop, length-append, length-take}
-use lib.Seq.{length-take-le, take-append-seam, take-at}
-use Rattle.splice.specs.Splice.{fits, splice, laid}
+use lib.ListN.{length, take, drop, length-append}
+use lib.Seq.{length-take-le, take-at}
+use Rattle.splice.specs.Splice.{fits, laid}
 use Rattle.splice.proofs.Laws.{length-splice}
 use Rattle.text.specs.Text.{Page, page, put}
 

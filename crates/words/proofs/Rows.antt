@@ -1,11 +1,11 @@
 -- The laws of rows, once for every width (specs/Rows.antt). Assumes nothing.
-use mathlib.Core.Path.{_≡_, sym, ap, _∙_}
+use mathlib.Core.Path.{_≡_, refl, sym, ap, _∙_}
 use mathlib.Core.List.{List, _++_}
-use Prim.Native.Nat.{ℕ, _+_, _*_, _-_, _≤_, _<_}
+use Prim.Native.Nat.{ℕ, zero, suc, _+_, _*_, _-_, _≤_, _<_}
 use native.Mathlib.Nat.{mul-le-mul-right, suc-mul, add-zero}
 use native.Mathlib.Decide.{decLt}
 use native.Mathlib.Omega.{arith}
-use lib.ListN.{length, take, drop, getD, length-append, length-take, length-drop, take-append-drop, List·getD-append, set}
+use lib.ListN.{length, take, drop, getD, length-append, length-take, length-drop, take-append-drop, List·getD-append, set, replicate}
 use lib.Seq.{take-at, drop-at, length-take-le, getD-take, getD-drop, ext-getD, take-set-le, take-set-lt, drop-set-lt, drop-set-add}
 use Rattle.words.specs.Rows.{rowAt, putAt}
 
@@ -103,3 +103,9 @@ set-in-row w t i k v h =
 
 pub set-row-head : (w : ℕ) (t : List ℕ) (i v : ℕ) → 0 < w → set t (i * w) v ≡ putAt w t i (set (rowAt w t i) 0 v)
 set-row-head w t i v h = rw add-zero at (set-in-row w t i 0 v h)
+
+-- words that are all 0
+pub zeros : (n i : ℕ) → _≡_ {A = ℕ} (getD (replicate n 0) i 0) 0
+zeros zero i = refl
+zeros (suc n) zero = refl
+zeros (suc n) (suc i) = zeros n i

@@ -1,6 +1,6 @@
 -- A key's state after any run is what the run's counted events that name it make of the start, in their order: events that name other
 -- keys, and those that do not count, fall away. Assumes nothing.
-use mathlib.Core.Path.{_≡_, refl, sym, ap, _∙_}
+use mathlib.Core.Path.{_≡_, refl, ap, _∙_}
 use mathlib.Core.Bool.{Bool, true, false, _&&_, cond}
 use mathlib.Core.List.{List, [], _∷_}
 use Rattle.words.specs.Runs.{kept, only, since, fold, Keyed}
@@ -16,10 +16,6 @@ module _ {Key E S : Type 0} (names : Key → E → Bool) (counts : List E → E 
       go true true q i = rw q (ap (λ (s : S). step s e) i)
       go true false q i = rw q i
       go false n q i = i
-
-  -- two runs with the same events of a key leave it in the same state
-  pub same-events : (h g : List E) (k : Key) → only (names k) (kept counts h) ≡ only (names k) (kept counts g) → table h k ≡ table g k
-  same-events h g k q = own-events h k ∙ ap (fold step start) q ∙ sym (own-events g k)
 
 -- a run of which every event counts is kept whole
 pub kept-all : {E : Type 0} (counts : List E → E → Bool) → ((h : List E) (e : E) → counts h e ≡ true) → (h : List E) → kept counts h ≡ h

@@ -5,7 +5,7 @@ use native.Mathlib.Omega.{arith}
 use borrow.Author.Needs.{needs}
 use Rattle.maps.specs.Judge.{countOf}
 use Rattle.table.proofs.KeyRow.{no-map, its-map}
-use Rattle.ask.proofs.Keys.{row-conflict, row-count}
+use Rattle.table.proofs.View.{row-held, row-conflict}
 use Rattle.ask.proofs.count.Statement.{statement}
 use Rattle.ask.proofs.count.Tie as tie
 
@@ -18,7 +18,7 @@ returns-2 : tie.Need-returns-2
 returns-2 c =
     let d = c .before .before in
     let r = d .before in
-    row-conflict (now (r .row-of .result)) (c .if2 .taken) ∙ ap countOf (sym (its-map _ _ (r .row-of .ensures .1) _ (r .row-of .ensures .0) (d .if1 .left) .1))
+    sym (ap countOf (its-map _ _ (r .row-of .ensures .1) _ (r .row-of .ensures .0) (d .if1 .left) .1 ∙ row-conflict (now (r .row-of .result)) (c .if2 .taken)))
 
 shared-slice-read-n-of : tie.Need-shared-slice-read-n-of
 shared-slice-read-n-of c =
@@ -31,7 +31,7 @@ returns-3 c =
     let s = c .before .before in
     let d = s .before .before in
     let r = d .before in
-    c .n-of .ensures ∙ row-count (now (r .row-of .result)) (s .if2 .left) ∙ ap countOf (sym (its-map _ _ (r .row-of .ensures .1) _ (r .row-of .ensures .0) (d .if1 .left) .1))
+    c .n-of .ensures ∙ sym (ap countOf (its-map _ _ (r .row-of .ensures .1) _ (r .row-of .ensures .0) (d .if1 .left) .1 ∙ row-held (now (r .row-of .result)) (s .if2 .left)))
 
 pub count-spec : {M : Type 1} → statement M
 count-spec = tie.close (tie.spec (λ c κs. search needs) returns (λ c. search needs) returns-2 shared-slice-read-n-of (λ c κs. search needs) returns-3)

@@ -1,6 +1,5 @@
 -- `find`: a key without a row is not held; else its map is its row's. Assumes nothing.
 use mathlib.Core.Path.{sym, ap, _∙_}
-use denote.Ref.{now}
 use borrow.Author.Needs.{needs}
 use Rattle.dictionary.specs.Dictionary.{widthOf}
 use Rattle.maps.specs.Maps.{Map}

@@ -1,6 +1,6 @@
 -- `find_row`: a map that is not usable is refused; in a usable one the lowest position with the SPN is the one. Assumes nothing.
 use Prim.Native.Nat.{_≤_}
-use mathlib.Core.Path.{_≡_, sym, ap, _∙_}
+use mathlib.Core.Path.{_≡_, ap, _∙_}
 use mathlib.Core.Bool.{true}
 use native.Mathlib.Omega.{arith}
 use denote.Ref.{now}
@@ -9,7 +9,7 @@ use Rattle.answers.specs.Answers.{unusable}
 use Rattle.dictionary.specs.Dictionary.{widthOf}
 use Rattle.maps.specs.Judge.{usable}
 use Rattle.table.specs.View.{rowMap}
-use Rattle.ask.specs.Ask.{notFound, positionOf}
+use Rattle.ask.specs.Ask.{positionOf}
 use Rattle.ask.proofs.Unfolded.{row-held, count-most, position-is, position-most, start-found, width-found}
 use Rattle.ask.proofs.Calls.{test-bad, test-good, find-bad, find-absent, find-here}
 use Rattle.ask.proofs.find_row.Statement.{statement}

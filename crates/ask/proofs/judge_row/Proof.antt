@@ -1,5 +1,5 @@
 -- `judge_row`: a row in conflict, or the judge's own promise of the lists that the row unfolds to. Assumes nothing.
-use mathlib.Core.Path.{sym, ap, _∙_}
+use mathlib.Core.Path.{sym, ap}
 use denote.Ref.{now}
 use borrow.Author.Needs.{needs}
 use Rattle.dictionary.specs.Dictionary.{widthOf}

@@ -1,8 +1,7 @@
 -- `position_in`: no position passed has the SPN, so the one that stops the search is the lowest. Assumes nothing.
-use Prim.Native.Nat.{ℕ, _-_}
+use Prim.Native.Nat.{_-_}
 use mathlib.Core.Path.{refl, sym}
 use mathlib.Core.Bool.{true}
-use denote.Ref.{now}
 use borrow.Author.Count.{below-none, below-more}
 use borrow.Author.Needs.{needs}
 use borrow.Author.Tests.{eq-eqb, ne-eqb}

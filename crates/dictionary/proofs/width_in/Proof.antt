@@ -1,15 +1,15 @@
 -- `dictionary::width_in` meets its contract: the width of the row found, and 0 where there is none.
 -- Assumes nothing.
-use Prim.Native.Nat.{ℕ, _<_}
-use mathlib.Core.Path.{_≡_, sym, ap, _∙_}
+use Prim.Native.Nat.{_<_}
+use mathlib.Core.Path.{sym, ap, _∙_}
 use native.Mathlib.Omega.{arith}
 use borrow.Author.Needs.{needs}
 use denote.Ref.{now}
 use lib.ListN.{length, length-map}
 use Rattle.rows.specs.declared.Row.{Row}
-use Rattle.rows.specs.Rows.{rowsOf, rowIn}
-use Rattle.dictionary.specs.Dictionary.{foundRow, widthIn}
-use Rattle.dictionary.proofs.Lookup.{Has, looked, at-found, at-none, rows-at}
+use Rattle.rows.specs.Rows.{rowsOf}
+use Rattle.dictionary.specs.Dictionary.{foundRow}
+use Rattle.dictionary.proofs.Lookup.{looked, at-found, at-none, rows-at}
 use Rattle.dictionary.proofs.width_in.Statement.{statement}
 use Rattle.dictionary.proofs.width_in.Tie as tie
 

@@ -1,7 +1,6 @@
 -- `message::decode` meets its contract: what the identifier and the length refuse is refused at once; what they pass is decided by the bytes.
 -- Assumes nothing.
-use Prim.Native.Nat.{ℕ}
-use mathlib.Core.Path.{_≡_, sym, ap, ap₂, _∙_}
+use mathlib.Core.Path.{sym, ap, ap₂, _∙_}
 use Rattle.frame.specs.declared.Fields.{Fields}
 use Rattle.frame.specs.Frame.{fieldsOf}
 use Rattle.message.specs.declared.Wire.{Wire}

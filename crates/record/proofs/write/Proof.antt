@@ -1,6 +1,6 @@
 -- `record::write` meets its contract: a copy that had room, or none.
 -- Assumes nothing.
-use mathlib.Core.Path.{_≡_, refl, sym, ap, _∙_}
+use mathlib.Core.Path.{sym, ap, _∙_}
 use mathlib.Core.Bool.{Bool, cond}
 use Rattle.answers.specs.Answers.{plain}
 use Rattle.record.proofs.Laws.{lay}

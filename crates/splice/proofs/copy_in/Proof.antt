@@ -1,11 +1,11 @@
 -- `splice::copy_in` meets its contract: the loop has copied i elements; it ends where either list does. Assumes nothing.
-use mathlib.Core.Path.{_≡_, refl, _∙_, sym, ap}
+use mathlib.Core.Path.{_≡_, _∙_}
 use mathlib.Core.List.{_++_}
-use Prim.Native.Nat.{ℕ, _≤_, _<_, _-_}
+use Prim.Native.Nat.{_≤_, _-_}
 use native.Mathlib.Omega.{arith}
 use lib.ListN.{length, take, drop, length-set}
 use borrow.Author.Needs.{needs}
-use Rattle.splice.proofs.Laws.{copy-more, copied-short, copied-whole, length-over}
+use Rattle.splice.proofs.Laws.{copy-more, copied-short, copied-whole}
 use Rattle.splice.proofs.copy_in.Statement.{statement}
 use Rattle.splice.proofs.copy_in.Tie as tie
 

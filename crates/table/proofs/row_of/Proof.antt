@@ -1,7 +1,5 @@
 -- `row_of`: the row of the slot found, or no word. Assumes nothing.
-use mathlib.Core.Path.{sym, ap, _∙_}
-use Prim.Native.Nat.{ℕ}
-use denote.Ref.{now}
+use mathlib.Core.Path.{ap, _∙_}
 use borrow.Author.Needs.{needs}
 use Rattle.table.specs.Layout.{slotOf}
 use Rattle.table.proofs.KeyRow.{row-none, row-some}

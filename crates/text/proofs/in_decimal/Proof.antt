@@ -3,8 +3,7 @@
 use Rattle.text.proofs.Decimal.{Writing, started, turned, ended, before}
 use native.Mathlib.Omega.{arith}
 use borrow.Author.Needs.{needs}
-use mathlib.Core.Path.{_≡_, subst}
-use Prim.Native.Nat.{ℕ, suc, _-_, _≤_}
+use Prim.Native.Nat.{_-_}
 use Rattle.text.proofs.in_decimal.Statement.{statement}
 use Rattle.text.proofs.in_decimal.Tie as tie
 

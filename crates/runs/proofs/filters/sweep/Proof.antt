@@ -1,6 +1,5 @@
 -- The loop ends: it goes once over the port numbers. Assumes nothing.
 use Prim.Native.Nat.{_-_}
-use native.Mathlib.Omega.{arith}
 use borrow.Author.Needs.{needs}
 use Rattle.runs.proofs.filters.sweep.Statement.{statement}
 use Rattle.runs.proofs.filters.sweep.Tie as tie

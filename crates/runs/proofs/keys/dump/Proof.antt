@@ -1,6 +1,5 @@
 -- The loop ends: it goes once over the words. Assumes nothing.
 use Prim.Native.Nat.{_-_}
-use native.Mathlib.Omega.{arith}
 use borrow.Author.Needs.{needs}
 use Rattle.runs.proofs.keys.dump.Statement.{statement}
 use Rattle.runs.proofs.keys.dump.Tie as tie

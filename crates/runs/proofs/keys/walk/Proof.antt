@@ -1,6 +1,5 @@
 -- The loop ends: it takes 20 turns at most. Assumes nothing.
 use Prim.Native.Nat.{_-_}
-use native.Mathlib.Omega.{arith}
 use borrow.Author.Needs.{needs}
 use Rattle.runs.proofs.keys.walk.Statement.{statement}
 use Rattle.runs.proofs.keys.walk.Tie as tie
