@@ -26,6 +26,7 @@ int main(void)
     say("judge: position 2 is missing", yendrolf_judge(&box, 38, 39, 1));
     say("learn position 2", yendrolf_learn(&box, 0x18b02726, 8, second));
     say("judge", yendrolf_judge(&box, 38, 39, 1));
+    printf("%-34s %u\n", "its parameters", yendrolf_count(&box, 38, 39, 1));
     say("learn from an engine's frame", yendrolf_learn(&box, 0x18fee300, 8, first));
 
     uint32_t numbers[YENDROLF_MOST_NUMBERS] = { 40, 1 };

@@ -93,6 +93,7 @@ typedef struct {
 void yendrolf_table_empty(uint64_t *table);
 yendrolf_told yendrolf_table_learn(uint64_t *table, uint32_t identifier, uint8_t length, const uint8_t *data);
 yendrolf_told yendrolf_table_forget(uint64_t *table, uint8_t source, uint8_t destination, uint8_t k);
+uint32_t yendrolf_table_count(const uint64_t *table, uint8_t source, uint8_t destination, uint8_t k);
 yendrolf_told yendrolf_table_judge(const uint64_t *table, uint8_t source, uint8_t destination, uint8_t k);
 yendrolf_told yendrolf_table_pack(const uint64_t *table, uint8_t source, uint8_t destination, uint8_t k, const uint32_t *numbers, size_t count,
     uint8_t *payload, size_t size);
@@ -129,6 +130,12 @@ static inline yendrolf_told yendrolf_learn(yendrolf_box *box, uint32_t identifie
 static inline yendrolf_told yendrolf_forget(yendrolf_box *box, uint8_t source, uint8_t destination, uint8_t k)
 {
     return yendrolf_table_forget(box->table, source, destination, k);
+}
+
+/* The number of parameters of a key's map: how many numbers yendrolf_pack takes and yendrolf_read gives. 0 where the key is in conflict or not held. */
+static inline uint32_t yendrolf_count(const yendrolf_box *box, uint8_t source, uint8_t destination, uint8_t k)
+{
+    return yendrolf_table_count(box->table, source, destination, k);
 }
 
 /* Judges a key's map: 11, or 0 with judgement and position. */

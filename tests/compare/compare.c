@@ -41,8 +41,8 @@ static yendrolf_box before;           /* the library's before the call */
 
 static uint64_t seed, calls, checks;
 
-enum call { LEARN, FORGET, JUDGE, PACK, READ, FIND, KEYS, ADD, DELETE, CLEAR, MODE, DECIDE, LIST, KINDS };
-static const char *const call_names[KINDS] = { "learn", "forget", "judge", "pack", "read", "find", "next key", "add", "delete", "clear", "set mode",
+enum call { LEARN, FORGET, COUNT, JUDGE, PACK, READ, FIND, KEYS, ADD, DELETE, CLEAR, MODE, DECIDE, LIST, KINDS };
+static const char *const call_names[KINDS] = { "learn", "forget", "count", "judge", "pack", "read", "find", "next key", "add", "delete", "clear", "set mode",
     "decide", "listing" };
 static uint64_t answers[KINDS][21], kinds[KINDS];
 static uint64_t judgements[2][9];     /* of judging, and of answer 12 */
@@ -381,6 +381,16 @@ static void forget(struct intended m)
         unchanged();
 }
 
+static void count(struct intended m)
+{
+    snprintf(told_call, sizeof told_call, "count %u %u %u", m.source, m.destination, m.k);
+    if (yendrolf_count(&box, m.source, m.destination, m.k) != plain_count(&plain, m.source, m.destination, m.k))
+        differ("the number of parameters");
+    calls++;
+    kinds[COUNT]++;
+    unchanged();
+}
+
 static void judge(struct intended m)
 {
     snprintf(told_call, sizeof told_call, "judge %u %u %u", m.source, m.destination, m.k);
@@ -503,6 +513,7 @@ static void check_table(void)
         if (!held)
             break;
         struct intended m = { (uint8_t)source, (uint8_t)destination, (uint8_t)k, 0, 0, 0, { 0 }, { 0 }, 0 };
+        count(m);
         judge(m);
         a = yendrolf_next_key(&box, (uint8_t)source, (uint8_t)destination, (uint8_t)k);
         k++;
@@ -690,8 +701,10 @@ static void one_call(void)
         teach(&scene[below(scene_keys)]);
     else if (what < 395)
         forget(any_key());
-    else if (what < 480)
+    else if (what < 440)
         judge(any_key());
+    else if (what < 480)
+        count(any_key());
     else if (what < 580)
         pack(any_key());
     else if (what < 640)

@@ -7,6 +7,7 @@ ghost use Rattle.table.specs.Learn.{learnt, emptyTable};
 ghost use Rattle.table.specs.Forget.{forgotten};
 ghost use Rattle.table.specs.Next.{keyFound, firstKey, nextKey};
 ghost use Rattle.table.specs.View.{mapIn};
+ghost use Rattle.maps.specs.Judge.{countOf};
 ghost use Rattle.dictionary.specs.Dictionary.{widthOf};
 ghost use Rattle.ask.specs.Ask.{judgedBy, packedBy, readBy, foundIn, foundBy};
 ghost use Rattle.listing.specs.Feed.{started, fed, feeding};
@@ -167,6 +168,14 @@ pub extern "C" fn yendrolf_table_forget(
     ensures { λ r. ⌜ outcome (saidTo r) (now (t .exit)) ≡ forgotten (now (t .entry)) (keyNumber (keyOf source destination k)) ⌝ }
 {
     in_c(table::forget(t, source, destination, k))
+}
+
+// The number of parameters of a key's map.
+#[no_mangle]
+pub extern "C" fn yendrolf_table_count(t: &[u64; 1072], source: u8, destination: u8, k: u8) -> u32
+    ensures { λ r. ⌜ r ≡ countOf (mapIn (now (t .entry)) (keyOf source destination k)) ⌝ }
+{
+    ask::count(t, source, destination, k) as u32
 }
 
 // Judges a key's map.
