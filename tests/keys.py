@@ -70,7 +70,7 @@ class Run:
 
     def judge(self, *keys):
         for key in keys:
-            self.add(10, bytes(key), line(*self.says("judge", key)))
+            self.add(10, bytes(key), line(*self.says("judge", key), self.says("count", key)))
 
     def find(self, key, *spns):
         for spn in spns:

@@ -243,6 +243,11 @@ class Box:
         """The key's map, or None where it is not held."""
         return map_of(self.sets[key]) if key in self.sets else None
 
+    def count(self, key):
+        """'N is 0 for a key in conflict', and here for one that is not held."""
+        held = self.map(key)
+        return 0 if held in (None, CONFLICT) else held[0]
+
     def judge(self, key):
         held = self.map(key)
         return Answer(11) if held is None else Answer(0, 0, *judge(held))
@@ -355,9 +360,7 @@ def listing(log, box=None):
         answers.append(box.learn(int.from_bytes(record[:4], "little"), record[4], record[5:]).number)
     lines = ["SRC DST MSG N JUDGED AT"]
     for key in box.keys():
-        held = box.map(key)
-        n = 0 if held == CONFLICT else held[0]
-        lines.append("%d %d %d %d %d %d" % (*key, n, *judge(held)))
+        lines.append("%d %d %d %d %d %d" % (*key, box.count(key), *judge(box.map(key))))
     refused = sum(answers.count(number) for number in (1, 3, 4, 5, 6, 7, 8, 9))
     lines.append("RECORDS %d REFUSED %d OTHER %d LEFT %d" % (whole, refused, answers.count(2), len(log) - 13 * whole))
     return "".join(line + "\n" for line in lines)

@@ -1,6 +1,6 @@
-// Questions about a key: judge, find, pack and read.
-use crate::said::answer;
+// Questions about a key: judge and count, find, pack and read.
 use crate::said::number;
+use answers::Answer;
 use ask::Found;
 use libc::STDIN_FILENO;
 use lines::bytes;
@@ -13,6 +13,12 @@ use lines::room;
 use lines::two;
 use lines::words;
 use table::WORDS;
+
+fn judged(a: Answer, n: u8) {
+    number(a);
+    more(n as u32);
+    end();
+}
 
 fn found(f: Found) {
     number(f.answer);
@@ -51,7 +57,10 @@ fn with_lists(t: &[u64; WORDS], b: &[u8; 14]) {
 
 pub(crate) fn run(t: &[u64; WORDS], b: &[u8; 14]) {
     match b[0] {
-        10 => answer(ask::judge(t, b[1], b[2], b[3])),
+        10 => judged(
+            ask::judge(t, b[1], b[2], b[3]),
+            ask::count(t, b[1], b[2], b[3]),
+        ),
         11 => found(ask::find(t, b[1], b[2], b[3], four(b[4], b[5], b[6], b[7]))),
         _ => with_lists(t, b),
     }
