@@ -15,7 +15,7 @@ ghost use Rattle.maps.specs.Judge.{spnIn, startIn, withWidth, mark, countOf, ju
 ghost use Rattle.table.specs.Layout.{rowWords, positions, keyOf};
 ghost use Rattle.table.specs.View.{headOf, placeOf, rowMap, mapIn};
 ghost use Rattle.ask.specs.Ask.{judgedBy, packedBy, readBy, foundIn, notFound, foundBy};
-ghost use Rattle.ask.specs.Unfolded.{spnsIn, startsIn, widthsIn, asOutcome};
+ghost use Rattle.ask.specs.Unfolded.{markedWidth, reach, unfolded, unfoldedIn, asOutcome};
 use answers::Answer;
 use answers::Judgement;
 use payload::Laying;
@@ -82,21 +82,33 @@ fn width_in(rows: &[[u32; 2]], cell: u64, spn: u32) -> u32
     dictionary::width_in(rows, spn)
 }
 
-// Unfolds a row: its 64 cells as SPNs, starts and widths, whatever n its form says. An empty cell asks nothing of the dictionary, and a position past
-// the 64 is missing.
+// How many positions there are to unfold: n, and no more than a row has.
+fn reach_of(n: u8) -> usize
+    ensures { λ r. ⌜ (r ≡ reach n) × (r ≤ positions) ⌝ }
+{
+    let n = n as usize;
+    if POSITIONS < n {
+        return POSITIONS;
+    }
+    n
+}
+
+// Unfolds the first n cells of a row as SPNs, starts and widths. An empty cell asks nothing of the dictionary.
 fn unfold_row(
     rows: &[[u32; 2]],
     row: &[u64],
+    n: usize,
     spns: &mut [u32],
     starts: &mut [u32],
     widths: &mut [u32],
 )
-    requires { ⌜ (now rows ≡ pairs) × (length (now row) ≡ rowWords) × (length (now spns) ≡ positions) × (length (now starts) ≡ positions) × (length (now widths) ≡ positions) ⌝ }
-    ensures { λ _. ⌜ (now (spns .exit) ≡ spnsIn (now (row .entry))) × (now (starts .exit) ≡ startsIn (now (row .entry)))
-        × (now (widths .exit) ≡ widthsIn (now (row .entry))) ⌝ }
+    requires { ⌜ (now rows ≡ pairs) × (length (now row) ≡ rowWords) × (n ≤ positions) × (length (now spns) ≡ positions) × (length (now starts) ≡ positions) × (length (now widths) ≡ positions) ⌝ }
+    ensures { λ _. ⌜ (now (spns .exit) ≡ unfolded spnIn (now (row .entry)) n (now (spns .entry)))
+        × (now (starts .exit) ≡ unfolded startIn (now (row .entry)) n (now (starts .entry)))
+        × (now (widths .exit) ≡ unfolded markedWidth (now (row .entry)) n (now (widths .entry))) ⌝ }
 {
     let mut i = 0;
-    while i < POSITIONS {
+    while i < n {
         let cell = row[CELLS + i];
         let spn = spn_of(cell);
         let start = start_of(cell);
@@ -107,19 +119,21 @@ fn unfold_row(
     }
 }
 
-// Unfolds a row and judges its map.
+// Unfolds a row as far as its n asks, and judges its map. A position past the 64 is missing.
 fn judge_row(row: &[u64], spns: &mut [u32], starts: &mut [u32], widths: &mut [u32]) -> Judgement
     requires { ⌜ (length (now row) ≡ rowWords) × (length (now spns) ≡ positions) × (length (now starts) ≡ positions) × (length (now widths) ≡ positions) ⌝ }
-    ensures { λ r. ⌜ (saidOf r ≡ judgementOf widthOf (rowMap (now (row .entry)))) × (now (spns .exit) ≡ spnsIn (now (row .entry)))
-        × (now (starts .exit) ≡ startsIn (now (row .entry))) × (now (widths .exit) ≡ widthsIn (now (row .entry))) ⌝ }
+    ensures { λ r. ⌜ (saidOf r ≡ judgementOf widthOf (rowMap (now (row .entry)))) × (now (spns .exit) ≡ unfoldedIn spnIn (now (row .entry)) (now (spns .entry)))
+        × (now (starts .exit) ≡ unfoldedIn startIn (now (row .entry)) (now (starts .entry)))
+        × (now (widths .exit) ≡ unfoldedIn markedWidth (now (row .entry)) (now (widths .entry))) ⌝ }
 {
+    let form = row[FORM];
+    let n = n_of(form);
     let rows = rows::all();
-    unfold_row(&rows, row, spns, starts, widths);
+    unfold_row(&rows, row, reach_of(n), spns, starts, widths);
     if row[STATE] != HELD { // in conflict, whatever the cells say
         return Judgement::Conflict;
     }
-    let form = row[FORM];
-    maps::judge(n_of(form), transport_of(form), spns, starts, widths)
+    maps::judge(n, transport_of(form), spns, starts, widths)
 }
 
 // What packing or reading told, as an answer. Of a usable map each position has its place (law usable-placed), so that Unplaced never comes.

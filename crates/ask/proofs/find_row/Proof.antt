@@ -40,7 +40,7 @@ position-in-requires c κs = omega (arith, c .n-of .ensures, count-most _ (good 
 its : (c : tie.After-position-in) → c .position-in .result ≡ positionOf widthOf (rowMap (now (c .before .before .before .before .before .before .before .before .before .before .before .before .before .before .args .row))) (c .before .before .before .before .before .before .before .before .before .before .before .before .before .before .args .spn)
 its c =
     let d = c .before in
-    c .position-in .ensures ∙ position-is _ (good d) _ _ _ (d .n-of .ensures) (d .before .before .before .before .before .before .before .before .judge-row .ensures .1)
+    c .position-in .ensures ∙ position-is _ (good d) _ _ _ _ (d .n-of .ensures) (d .before .before .before .before .before .before .before .before .judge-row .ensures .1)
 
 inside : (c : tie.After-position-in) → (c .position-in .result ≤ c .before .n-of .result) × (c .before .n-of .result ≤ 64)
 inside c =
@@ -59,8 +59,8 @@ returns-3 c =
     let d = q .before in
     let e = d .before .before .before .before .before .before .before .before .judge-row .ensures in
     find-here widthOf _ (good d) (d .before .before .before .before .before .before .before .before .before .before .before .before .before .args .spn) _ _ (its q) (c .before .if2 .left) (c .plainly2 .ensures) _ _
-    (start-found _ (good d) _ (c .before .if2 .left) (omega (arith, inside q, d .n-of .ensures)) _ (e .2))
-    (width-found _ (good d) _ (c .before .if2 .left) (omega (arith, inside q, d .n-of .ensures)) _ (e .3))
+    (start-found _ (good d) _ (c .before .if2 .left) (omega (arith, inside q, d .n-of .ensures)) _ _ (e .2))
+    (width-found _ (good d) _ (c .before .if2 .left) (omega (arith, inside q, d .n-of .ensures)) _ _ (e .3))
 
 pub find-row-spec : {M : Type 1} → statement M
 find-row-spec =

@@ -1,36 +1,57 @@
 -- `judge_row`: a row in conflict, or the judge's own promise of the lists that the row unfolds to. Assumes nothing.
-use mathlib.Core.Path.{sym, ap}
+use Prim.Native.Nat.{ℕ}
+use mathlib.Core.Path.{_≡_, sym, ap, _∙_}
 use denote.Ref.{now}
 use borrow.Author.Needs.{needs}
 use Rattle.dictionary.specs.Dictionary.{widthOf}
-use Rattle.maps.specs.Judge.{judge}
-use Rattle.ask.proofs.Unfolded.{map-conflict, row-judged}
+use Rattle.maps.specs.Judge.{spnIn, startIn, judge}
+use Rattle.table.specs.Layout.{formWord}
+use Rattle.table.specs.View.{headOf}
+use Rattle.table.proofs.View.{row-conflict}
+use Rattle.ask.specs.Unfolded.{markedWidth, reach, unfolded}
+use Rattle.ask.proofs.Unfolded.{row-judged}
 use Rattle.ask.proofs.judge_row.Statement.{statement}
 use Rattle.ask.proofs.judge_row.Tie as tie
+
+-- as far as the row's own n asks
+far : (c : tie.After-reach-of) → c .reach-of .result ≡ reach (headOf (formWord (now (c .before .before .before .before .before .before .before .before .before .args .row))) .n)
+far c = c .reach-of .ensures .0 ∙ ap reach (c .before .before .before .n-of .ensures)
 
 returns : tie.Need-returns
 returns c =
     let u = c .before .before .before .before .before .before .before .before in
-    let row = now (u .before .before .before .before .before .before .before .before .before .before .args .row) in
-    let e = u .unfold-row .ensures in
-    (sym (ap (judge widthOf) (map-conflict row (c .if1 .taken))), e .0, e .1, e .2)
+    let q = u .before .before .before .before in
+    let a = q .before .before .before .before .before .before .before .before .before .args in
+    let row = now (a .row) in
+    let e = u .unfold-row .ensures in (
+      sym (ap (judge widthOf) (row-conflict row (c .if1 .taken))),
+      e .0 ∙ ap (λ (k : ℕ). unfolded spnIn row k (now (a .spns))) (far q),
+      e .1 ∙ ap (λ (k : ℕ). unfolded startIn row k (now (a .starts))) (far q),
+      e .2 ∙ ap (λ (k : ℕ). unfolded markedWidth row k (now (a .widths))) (far q),
+    )
 
 returns-2 : tie.Need-returns-2
 returns-2 c =
-    let d = c .before .before .before .before .before .before .before in
+    let d = c .before .before .before .before .before in
     let u = d .before .before .before .before .before .before .before .before in
-    let row = now (u .before .before .before .before .before .before .before .before .before .before .args .row) in
-    let e = u .unfold-row .ensures in (
-      row-judged row _ _ _ _ _ _ (d .if1 .left) (c .before .before .before .before .before .n-of .ensures) (c .before .before .before .before .transport-of .ensures)
-          (e .0) (e .1) (e .2) (c .judge .ensures),
-      e .0,
-      e .1,
-      e .2,
+    let q = u .before .before .before .before in
+    let start = q .before .before .before .before .before .before .before .before .before in
+    let a = start .args in
+    let row = now (a .row) in
+    let e = u .unfold-row .ensures in
+    let spns = e .0 ∙ ap (λ (k : ℕ). unfolded spnIn row k (now (a .spns))) (far q) in
+    let starts = e .1 ∙ ap (λ (k : ℕ). unfolded startIn row k (now (a .starts))) (far q) in
+    let widths = e .2 ∙ ap (λ (k : ℕ). unfolded markedWidth row k (now (a .widths))) (far q) in (
+      row-judged row (now (a .spns)) (now (a .starts)) (now (a .widths)) _ _ _ _ _ _ (start .pre .3) (d .if1 .left) (q .before .before .before .n-of .ensures)
+          (c .before .before .before .before .transport-of .ensures) spns starts widths (c .judge .ensures),
+      spns,
+      starts,
+      widths,
     )
 
 pub judge-row-spec : {M : Type 1} → statement M
 judge-row-spec =
     tie.close
-    (tie.spec (λ c κs. search needs) (λ c. search needs) (λ c κs. search needs) (λ c. search needs) (λ c. search needs) (λ c. search needs) (λ c. search needs) returns
-    (λ c. search needs) (λ c κs. search needs) (λ c κs. search needs) (λ c κs. search needs)
-    (λ c. search needs) (λ c. search needs) (λ c. search needs) returns-2)
+    (tie.spec (λ c. search needs) (λ c κs. search needs) (λ c κs. search needs) (λ c. search needs) (λ c κs. search needs) (λ c κs. search needs) (λ c. search needs)
+    (λ c. search needs) (λ c. search needs) (λ c. search needs) returns (λ c κs. search needs) (λ c κs. search needs) (λ c. search needs) (λ c. search needs)
+    (λ c. search needs) returns-2)

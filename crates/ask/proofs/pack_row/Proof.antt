@@ -49,7 +49,7 @@ returns-2 c =
     let row = now (s .row) in
     let u = good d in
     pack-told widthOf width-most (rowMap row) u (omega (arith, count-is row u, count-most row u)) _ _
-    (first-n row u _ _ _ (d .n-of .ensures) (j .judge-row .ensures .2) (j .judge-row .ensures .3)) _ _ (c .told .ensures _)
+    (first-n row u _ _ _ _ _ (d .n-of .ensures) (j .judge-row .ensures .2) (j .judge-row .ensures .3)) _ _ (c .told .ensures _)
     (now (s .numbers)) (now (s .out)) (c .before .before .before .pack .ensures)
 
 pub pack-row-spec : {M : Type 1} → statement M

@@ -1,32 +1,29 @@
 -- `unfold_row`: after i turns each list has the first i numbers. Assumes nothing.
-use Prim.Native.Nat.{suc, _+_, _-_, _≤_}
-use mathlib.Core.Path.{_≡_, refl}
-use mathlib.Core.List.{_++_}
+use Prim.Native.Nat.{ℕ, _+_, _-_, _≤_}
+use mathlib.Core.Path.{_≡_, refl, ap, _∙_}
 use native.Mathlib.Omega.{arith}
 use denote.Ref.{now}
 use borrow.Author.Needs.{needs}
-use lib.ListN.{length, getD, drop}
+use lib.ListN.{length, getD}
 use Rattle.payload.specs.Bits.{tabulate}
-use Rattle.maps.specs.Judge.{spnIn, startIn, spnAt, startAt}
+use Rattle.maps.specs.Judge.{spnIn, startIn}
 use Rattle.table.specs.Layout.{positions}
-use Rattle.ask.specs.Unfolded.{paramsIn, markedWidth, spnsIn, startsIn, widthsIn}
-use Rattle.ask.proofs.Unfolded.{turn, last, width-of-cell}
+use Rattle.ask.specs.Unfolded.{markedWidth, unfolded}
+use Rattle.ask.proofs.Unfolded.{turn, width-of-cell}
 use Rattle.ask.proofs.unfold_row.Statement.{statement}
 use Rattle.ask.proofs.unfold_row.Tie as tie
 
 abbrev Inv-loop : tie.InvT-loop
-Inv-loop rows row spns₀ starts₀ widths₀ i₀ spns starts widths i =
-    (i ≤ positions)
+Inv-loop rows row n spns₀ starts₀ widths₀ i₀ spns starts widths i =
+    (i ≤ n)
     × (length spns ≡ positions) × (length starts ≡ positions) × (length widths ≡ positions)
-    × (spns ≡ tabulate (spnAt (paramsIn row)) i ++ drop i spns₀)
-    × (starts ≡ tabulate (startAt (paramsIn row)) i ++ drop i starts₀)
-    × (widths ≡ tabulate (λ k. markedWidth (paramsIn row (suc k))) i ++ drop i widths₀)
+    × (spns ≡ unfolded spnIn row i spns₀) × (starts ≡ unfolded startIn row i starts₀) × (widths ≡ unfolded markedWidth row i widths₀)
 
 abbrev μ-loop : tie.MeasureT-loop
-μ-loop rows row spns₀ starts₀ widths₀ i₀ spns starts widths i = positions - i
+μ-loop rows row n spns₀ starts₀ widths₀ i₀ spns starts widths i = n - i
 
 loop-holds : tie.Need-loop-holds Inv-loop μ-loop
-unfolding tabulate
+unfolding unfolded tabulate
 loop-holds c = (search needs, search needs, search needs, search needs, refl, refl, refl)
 
 loop-again : tie.Need-loop-again Inv-loop μ-loop
@@ -45,13 +42,13 @@ loop-again c =
     )
 
 returns : tie.Need-returns Inv-loop μ-loop
-unfolding spnsIn startsIn widthsIn
 returns c =
     let l = c .before in
-    let a = l .before .before .before .before .before .args in (
-      last _ (now (a .spns)) _ (l .loop .i) (search needs) (omega arith) (l .loop .inv .4),
-      last _ (now (a .starts)) _ (l .loop .i) (search needs) (omega arith) (l .loop .inv .5),
-      last _ (now (a .widths)) _ (l .loop .i) (search needs) (omega arith) (l .loop .inv .6),
+    let a = l .before .before .before .before .before .args in
+    let e : l .loop .i ≡ a .n = omega arith in (
+      l .loop .inv .4 ∙ ap (λ (k : ℕ). unfolded spnIn (now (a .row)) k (now (a .spns))) e,
+      l .loop .inv .5 ∙ ap (λ (k : ℕ). unfolded startIn (now (a .row)) k (now (a .starts))) e,
+      l .loop .inv .6 ∙ ap (λ (k : ℕ). unfolded markedWidth (now (a .row)) k (now (a .widths))) e,
     )
 
 pub unfold-row-spec : {M : Type 1} → statement M
