@@ -11,7 +11,7 @@
 //   7 key                            the next held key
 //   8 place, word of 8 bytes         writes a word of the table; no line
 //   9                                place and word of all words of the table that are not 0
-//   10 key                           what judge answers
+//   10 key                           what judge answers, and how many parameters the key's map has
 //   11 key, SPN                      what find answers, with position, start and width
 //   12 key, numbers, buffer          what pack answers, and the whole buffer
 //   13 key, room, payload            what read answers, and the whole room
