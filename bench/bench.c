@@ -1,42 +1,79 @@
-/* bench EMULATED: the Rattle library beside bench/fast.c in one process, on one input: processor time a call, the median of 7 runs that take turns. */
+/* bench HOW PART: the Rattle library beside bench/fast.c in one process, on one input: processor time a call, the median of RUNS runs that take turns. The C is
+   there as each compiler made it (bench/run), and the ratio is to the fastest of these. */
 #define _POSIX_C_SOURCE 199309L
-#include <inttypes.h>
 #include <stdio.h>
 #include <stdlib.h>
 #include <string.h>
 #include <time.h>
 
 #include "../include/yendrolf.h"
-#define FAST(name) fast_##name
+
+/* The prototypes of each build: gcc2_, gcc3_ and clang2_ look widths up by halving, the same with w from the dictionary's start on. */
+#define FAST(name) gcc2_##name
 #include "fast.h"
 #undef FAST_H
 #undef FAST
-#define FAST(name) walk_##name
+#define FAST(name) gcc3_##name
 #include "fast.h"
+#undef FAST_H
+#undef FAST
+#define FAST(name) gcc2w_##name
+#include "fast.h"
+#undef FAST_H
+#undef FAST
+#define FAST(name) gcc3w_##name
+#include "fast.h"
+#undef FAST_H
+#undef FAST
+#ifdef CLANG
+#define FAST(name) clang2_##name
+#include "fast.h"
+#undef FAST_H
+#undef FAST
+#define FAST(name) clang2w_##name
+#include "fast.h"
+#endif
 
 #define FRAMES 4096
 #define RECORDS 5000
-#define RUNS 7
-#define EIGHT 38, 39, 1     /* a key with 8 parameters in 8 bytes */
-#define THIRTY 38, 39, 2    /* a key with 30 parameters, with transport */
+#define RUNS 41
+#define MAPS 5           /* maps of a kind */
+#define KEYS 16
+#define ROW 67           /* words of a key's row */
+#define FIRST_8 1        /* the message k of the first map of a kind, all of them from 38 to 39; these in `box`, */
+#define FIRST_30 6
+#define FIRST_64 1       /* these in `wide_box` */
+#define FIRST_1 6
 
 struct frame {
     uint32_t identifier;
     uint8_t data[8];
 };
 
-static yendrolf_box box, other_box;
+struct map {
+    unsigned n, bytes;
+    uint32_t spns[YENDROLF_MOST_NUMBERS];
+    unsigned starts[YENDROLF_MOST_NUMBERS];
+};
+
+struct key {
+    uint8_t source, k;
+};
+
+static yendrolf_box box, wide_box, other_box, spare;
+static struct map maps_8[MAPS], maps_30[MAPS], maps_64[MAPS], maps_1[MAPS];
+static struct key keys[KEYS];             /* of `box`, in the order of its rows */
 static struct frame frames[FRAMES];
 static uint32_t other_ids[FRAMES];
 static uint8_t records[RECORDS * 13];
-static uint32_t numbers[8];
-static uint8_t payload[64];
-static const uint32_t spns[8] = { 1497, 1498, 1517, 1519, 1489, 3146, 3152, 9 };
+static uint32_t numbers[YENDROLF_MOST_NUMBERS];
+static uint8_t payload[YENDROLF_MOST_BYTES];
 
-/* What pack and read find, the same for each run. */
+/* What pack and read find, the same for each run; 1 fits every width. */
 static void fill(void)
 {
-    memset(numbers, 0, sizeof numbers);
+    for (unsigned i = 0; i < YENDROLF_MOST_NUMBERS; i++)
+        numbers[i] = 1;
     memset(payload, 0, sizeof payload);
 }
 
@@ -44,34 +81,78 @@ static void fill(void)
 #define CALL(name) yendrolf_##name
 #define TEST(name) rattle_##name
 #include "calls.h"
-#define CALL(name) fast_##name
-#define TEST(name) fast_##name
+#define CALL(name) gcc2_##name
+#define TEST(name) gcc2_##name
 #include "calls.h"
-#define CALL(name) walk_##name
-#define TEST(name) walk_##name
+#define CALL(name) gcc3_##name
+#define TEST(name) gcc3_##name
 #include "calls.h"
+#define CALL(name) gcc2w_##name
+#define TEST(name) gcc2w_##name
+#include "calls.h"
+#define CALL(name) gcc3w_##name
+#define TEST(name) gcc3w_##name
+#include "calls.h"
+#ifdef CLANG
+#define CALL(name) clang2_##name
+#define TEST(name) clang2_##name
+#include "calls.h"
+#define CALL(name) clang2w_##name
+#define TEST(name) clang2w_##name
+#include "calls.h"
+#endif
+
+#ifdef CLANG
+#define BUILDS 4
+#define HALVES(test) { rattle_##test, gcc2_##test, gcc3_##test, clang2_##test }
+#define WALKS(test) { rattle_##test, gcc2w_##test, gcc3w_##test, clang2w_##test }
+#else
+#define BUILDS 3
+#define HALVES(test) { rattle_##test, gcc2_##test, gcc3_##test }
+#define WALKS(test) { rattle_##test, gcc2w_##test, gcc3w_##test }
+#endif
+static const char *const builds[] = { "Rattle", "gcc -O2", "gcc -O3", "clang -O2" };
 
 static const struct test {
     const char *name;
     uint64_t calls;
-    uint64_t (*rattle)(uint64_t);
-    uint64_t (*c)(uint64_t);
+    uint64_t (*builds[BUILDS])(uint64_t);
 } tests[] = {
-    { "learn: a frame of another PGN", 20000000, rattle_others, fast_others },
-    { "learn: a message", 5000000, rattle_learn, fast_learn },
-    { "judge 8 parameters", 1000000, rattle_judge8, fast_judge8 },
-    { "judge 8 parameters, C walks the dictionary", 1000000, rattle_judge8, walk_judge8 },
-    { "judge 30 parameters", 300000, rattle_judge30, fast_judge30 },
-    { "judge 30 parameters, C walks the dictionary", 300000, rattle_judge30, walk_judge30 },
-    { "pack 8 parameters", 1000000, rattle_pack8, fast_pack8 },
-    { "pack 8 parameters, C walks the dictionary", 1000000, rattle_pack8, walk_pack8 },
-    { "read 8 parameters", 1000000, rattle_read8, fast_read8 },
-    { "read 8 parameters, C walks the dictionary", 1000000, rattle_read8, walk_read8 },
-    { "find one of 8 parameters", 1000000, rattle_find8, fast_find8 },
-    { "find one of 8, C walks the dictionary", 1000000, rattle_find8, walk_find8 },
-    { "decide, an empty list", 20000000, rattle_decide0, fast_decide0 },
-    { "decide, a list of 32", 5000000, rattle_decide32, fast_decide32 },
-    { "listing, a record", 10000000, rattle_listing, fast_listing },
+    { "learn: a frame of another PGN", 2000000, HALVES(others) },
+    { "learn: a message", 400000, HALVES(learn) },
+    { "forget", 400000, HALVES(forget) },
+    { "count", 800000, HALVES(count) },
+    { "judge 8", 20000, HALVES(judge_8) },
+    { "judge 8, C walks", 20000, WALKS(judge_8) },
+    { "judge 30", 5000, HALVES(judge_30) },
+    { "judge 30, C walks", 5000, WALKS(judge_30) },
+    { "judge 64", 2400, HALVES(judge_64) },
+    { "judge 64, C walks", 2400, WALKS(judge_64) },
+    { "pack 8", 16000, HALVES(pack_8) },
+    { "pack 8, C walks", 16000, WALKS(pack_8) },
+    { "pack 30", 4000, HALVES(pack_30) },
+    { "pack 30, C walks", 4000, WALKS(pack_30) },
+    { "pack 64", 2000, HALVES(pack_64) },
+    { "pack 64, C walks", 2000, WALKS(pack_64) },
+    { "pack one at the last bits", 40000, HALVES(pack_1) },
+    { "pack one at the last bits, C walks", 40000, WALKS(pack_1) },
+    { "read 8", 16000, HALVES(read_8) },
+    { "read 8, C walks", 16000, WALKS(read_8) },
+    { "read 30", 4000, HALVES(read_30) },
+    { "read 30, C walks", 4000, WALKS(read_30) },
+    { "read 64", 2000, HALVES(read_64) },
+    { "read 64, C walks", 2000, WALKS(read_64) },
+    { "read one at the last bits", 40000, HALVES(read_1) },
+    { "read one at the last bits, C walks", 40000, WALKS(read_1) },
+    { "find one of 8", 20000, HALVES(find) },
+    { "find one of 8, C walks", 20000, WALKS(find) },
+    { "parameter at a position of 8", 80000, HALVES(parameter) },
+    { "parameter at a position of 8, C walks", 80000, WALKS(parameter) },
+    { "decide, an empty list", 1600000, HALVES(decide0) },
+    { "decide, a list of 32", 400000, HALVES(decide32) },
+    { "feed, a record", 1000000, HALVES(feed) },
+    { "finish, 16 keys", 800, HALVES(finish) },
+    { "finish, 16 keys, C walks", 800, WALKS(finish) },
 };
 
 static double seconds(void)
@@ -96,22 +177,6 @@ static uint32_t any(void)
     return (uint32_t)(x >> 32);
 }
 
-/* The message of a key's position; the parameters stand one behind another. */
-static struct frame message(uint8_t k, unsigned n, unsigned p, uint32_t spn, unsigned start, int transport)
-{
-    struct frame f = { 0x18b02726, { 0, (uint8_t)(176 + k), 0, (uint8_t)spn, (uint8_t)(spn >> 8), (uint8_t)((spn >> 16) << 5 | p),
-        (uint8_t)(n | (transport ? 64u : 0u)), (uint8_t)(start + 1) } };
-    return f;
-}
-
-static void teach(struct frame f)
-{
-    if (yendrolf_learn(&box, f.identifier, 8, f.data).number != 0) {
-        printf("a message was refused\n");
-        exit(1);
-    }
-}
-
 static const struct {
     uint32_t spn;
     unsigned width;
@@ -119,22 +184,132 @@ static const struct {
 #include "spns.inc"
 };
 
+#define ENTRIES (sizeof dictionary / sizeof dictionary[0])
+
+static uint64_t rows_drawn, rows_sum;
+
+/* A map of n different SPNs, each drawn evenly from the whole dictionary, one behind another; 0 where a start stands above `last` or its bits end above
+   `end`, so that another map is drawn. */
+static int draw(struct map *m, unsigned n, unsigned last, unsigned end)
+{
+    unsigned char taken[ENTRIES] = { 0 };
+    unsigned at = 0, rows = 0;
+    m->n = n;
+    for (unsigned i = 0; i < n; i++) {
+        unsigned row;
+        do
+            row = any() % ENTRIES;
+        while (taken[row]);
+        taken[row] = 1;
+        rows += row + 1;
+        m->spns[i] = dictionary[row].spn;
+        m->starts[i] = at;
+        if (at > last)
+            return 0;
+        at += dictionary[row].width;
+    }
+    if (at > end)
+        return 0;
+    m->bytes = at <= 64 ? 8 : (at + 7) / 8;
+    rows_drawn += n;
+    rows_sum += rows;
+    return 1;
+}
+
+/* A map of one SPN, drawn in the same way, at the last bits that a payload can have. */
+static void draw_last(struct map *m)
+{
+    unsigned row = any() % ENTRIES;
+    m->n = 1;
+    m->spns[0] = dictionary[row].spn;
+    m->starts[0] = 8 * YENDROLF_MOST_BYTES - dictionary[row].width;
+    m->bytes = YENDROLF_MOST_BYTES;
+    rows_drawn++;
+    rows_sum += row + 1;
+}
+
+static void fail(const char *what)
+{
+    printf("%s\n", what);
+    exit(1);
+}
+
+/* The message of a key's position. */
+static struct frame message(uint8_t source, uint8_t k, unsigned n, unsigned p, uint32_t spn, unsigned start, int transport)
+{
+    struct frame f = { 0x18b02700u | source, { 0, (uint8_t)(176 + k), 0, (uint8_t)spn, (uint8_t)(spn >> 8), (uint8_t)((spn >> 16) << 5 | p),
+        (uint8_t)(n | (transport ? 192u : 128u)), (uint8_t)(start + 1) } };
+    return f;
+}
+
+static unsigned made, held;   /* frames and keys so far */
+
+static void teach(struct frame f)
+{
+    if (yendrolf_learn(&box, f.identifier, 8, f.data).number != 0)
+        fail("a message was refused");
+    frames[made++] = f;
+}
+
+/* A key of `box` with this map, from frames. */
+static void teach_map(const struct map *m, uint8_t k)
+{
+    keys[held++] = (struct key){ 38, k };
+    for (unsigned p = 1; p <= m->n; p++)
+        teach(message(38, k, m->n, p, m->spns[p - 1], m->starts[p - 1], m->bytes > 8));
+}
+
+/* A key of `wide_box` with this map, laid into the words of a row as crates/keyrow/specs/Row.antt has them: no wire can carry it. */
+static void lay_map(const struct map *m, unsigned row, uint8_t k)
+{
+    uint64_t *words = &wide_box.table[ROW * row];
+    words[0] = 1;
+    words[1] = 38 * 65536 + 39 * 256 + k;
+    words[2] = m->n + 256 + (m->bytes > 8 ? 512 : 0);
+    for (unsigned p = 1; p <= m->n; p++)
+        words[2 + p] = 1 + m->spns[p - 1] + ((uint64_t)m->starts[p - 1] << 32);
+}
+
+/* All maps of one kind are usable. */
+static void see_usable(const yendrolf_box *b, uint8_t first, const struct map *m)
+{
+    for (uint8_t i = 0; i < MAPS; i++) {
+        yendrolf_told told = yendrolf_judge(b, 38, 39, (uint8_t)(first + i));
+        if (told.number != 0 || told.judgement != 0 || yendrolf_count(b, 38, 39, (uint8_t)(first + i)) != m[i].n)
+            fail("a map is not usable");
+    }
+}
+
 static void prepare(void)
 {
-    static const unsigned starts[8] = { 0, 2, 8, 16, 24, 32, 56, 62 };
     yendrolf_start(&box);
+    yendrolf_start(&wide_box);
     yendrolf_start(&other_box);
-    unsigned made = 0, at = 0;
-    for (unsigned p = 1; p <= 8; p++)
-        teach(frames[made++] = message(1, 8, p, p == 8 ? 1499 : spns[p - 1], starts[p - 1], 0));
-    for (unsigned p = 1, i = 40; p <= 30; p++, i += 3) {
-        while (dictionary[i].width > 8)
-            i++;
-        teach(frames[made++] = message(2, 30, p, dictionary[i].spn, at, 1));
-        at += dictionary[i].width;
+    for (uint8_t i = 0; i < MAPS; i++) {
+        while (!draw(&maps_8[i], 8, 249, 64))
+            ;
+        while (!draw(&maps_30[i], 30, 249, 8 * YENDROLF_MOST_BYTES) || maps_30[i].bytes <= 8)
+            ;
+        while (!draw(&maps_64[i], 64, 14279, 8 * YENDROLF_MOST_BYTES))
+            ;
+        draw_last(&maps_1[i]);
+        lay_map(&maps_64[i], i, (uint8_t)(FIRST_64 + i));
+        lay_map(&maps_1[i], MAPS + i, (uint8_t)(FIRST_1 + i));
     }
-    for (uint8_t k = 3; k <= 15; k++)
-        teach(frames[made++] = message(k, 5, 1 + k % 5, 1517, 8 * k, 0));
+    for (uint8_t i = 0; i < MAPS; i++)
+        teach_map(&maps_8[i], (uint8_t)(FIRST_8 + i));
+    for (uint8_t i = 0; i < MAPS; i++)
+        teach_map(&maps_30[i], (uint8_t)(FIRST_30 + i));
+    for (uint8_t k = 11; held < KEYS; k = k < 15 ? k + 1 : 1) {   /* and keys that are not complete, which fill the table */
+        uint8_t source = held < 15 ? 38 : 40;
+        keys[held++] = (struct key){ source, k };
+        teach(message(source, k, 5, 1 + k % 5, dictionary[any() % ENTRIES].spn, any() % 250, 0));
+    }
+    see_usable(&box, FIRST_8, maps_8);
+    see_usable(&box, FIRST_30, maps_30);
+    see_usable(&wide_box, FIRST_64, maps_64);
+    see_usable(&wide_box, FIRST_1, maps_1);
+    spare = box;
     for (unsigned i = made; i < FRAMES; i++)
         frames[i] = frames[any() % made];
     for (unsigned i = 0; i < FRAMES; i++)
@@ -152,39 +327,68 @@ static void prepare(void)
         r[4] = 8;
         memcpy(r + 5, f.data, 8);
     }
-    if (yendrolf_judge(&box, EIGHT).judgement || yendrolf_judge(&box, THIRTY).judgement) {
-        printf("a map is not usable\n");
-        exit(1);
+}
+
+/* Sorts them. */
+static double median(double of[RUNS])
+{
+    qsort(of, RUNS, sizeof of[0], rising);
+    return of[RUNS / 2];
+}
+
+/* One test: each build in turn, RUNS times; then a line with the median of each and the ratio to the fastest C. A ratio is the median of the RUNS ratios, each of
+   two times that were taken one soon after the other: other work on the machine slows both. */
+static void measure(const struct test *t, uint64_t part)
+{
+    double taken[BUILDS][RUNS];
+    uint64_t n = t->calls / part + 1, sum = 0;
+    for (unsigned run = 0; run < RUNS; run++)
+        for (unsigned i = 0; i < BUILDS; i++) {
+            unsigned b = (i + run) % BUILDS;
+            double start = seconds();
+            uint64_t got = t->builds[b](n);
+            taken[b][run] = seconds() - start;
+            if (run == 0 && i == 0)
+                sum = got;
+            if (got != sum) {
+                printf("%s: %s got another sum\n", t->name, builds[b]);
+                exit(1);
+            }
+        }
+    double ratio = 0;
+    const char *fastest = "";
+    for (unsigned b = 1; b < BUILDS; b++) {
+        double ratios[RUNS];
+        for (unsigned run = 0; run < RUNS; run++)
+            ratios[run] = taken[0][run] / taken[b][run];
+        double r = median(ratios);
+        if (r > ratio)
+            ratio = r, fastest = builds[b];
     }
+    printf("| %s |", t->name);
+    for (unsigned b = 0; b < BUILDS; b++) {
+        double ns = median(taken[b]) / (double)n * 1e9;
+        printf(ns < 100 ? " %.1f |" : " %.0f |", ns);
+    }
+    printf(" %.2f (%s) |\n", ratio, fastest);
+    fflush(stdout);
 }
 
 int main(int argc, char **argv)
 {
     uint64_t part = argc > 2 ? strtoull(argv[2], NULL, 10) : 1;   /* for a short look: one in so many calls */
     prepare();
-    printf("| call | Rattle, ns | C, ns | Rattle / C |\n|---|---|---|---|\n");
-    for (size_t t = 0; t < sizeof tests / sizeof tests[0]; t++) {
-        double rattle[RUNS], c[RUNS];
-        uint64_t n = tests[t].calls / part;
-        for (unsigned i = 0; i < RUNS; i++) {
-            double start = seconds();
-            uint64_t a = tests[t].rattle(n);
-            double middle = seconds();
-            uint64_t b = tests[t].c(n);
-            rattle[i] = middle - start;
-            c[i] = seconds() - middle;
-            if (a != b) {
-                printf("%s: the two got different sums\n", tests[t].name);
-                return 1;
-            }
-        }
-        qsort(rattle, RUNS, sizeof rattle[0], rising);
-        qsort(c, RUNS, sizeof c[0], rising);
-        printf("| %s | %.1f | %.1f | %.2f |\n", tests[t].name, rattle[RUNS / 2] / (double)n * 1e9, c[RUNS / 2] / (double)n * 1e9,
-            rattle[RUNS / 2] / c[RUNS / 2]);
-        fflush(stdout);
-    }
-    printf("\n%s. Processor time, the median of %d runs that take turns, in one process. Buffers were not cleared between calls. State: %zu bytes\n"
-        "(table %zu, filters %zu), the same for both.\n", argc > 1 ? argv[1] : "", RUNS, sizeof(yendrolf_box), sizeof box.table, sizeof box.filters);
+    printf("| call |");
+    for (unsigned b = 0; b < BUILDS; b++)
+        printf(" %s, ns |", builds[b]);
+    printf(" Rattle / fastest C |\n|---|");
+    for (unsigned b = 0; b <= BUILDS; b++)
+        printf("---|");
+    printf("\n");
+    for (size_t t = 0; t < sizeof tests / sizeof tests[0]; t++)
+        measure(&tests[t], part ? part : 1);
+    printf("\n%s. Processor time, medians of %d runs that take turns, in one process. The %llu SPNs were drawn evenly from the dictionary's %zu rows\n"
+        "(mean row %.0f). State: %zu bytes (table %zu, filters %zu), the same for all.\n", argc > 1 ? argv[1] : "", RUNS, (unsigned long long)rows_drawn, ENTRIES,
+        (double)rows_sum / (double)rows_drawn, sizeof(yendrolf_box), sizeof box.table, sizeof box.filters);
     return 0;
 }

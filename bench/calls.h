@@ -1,5 +1,5 @@
 /* What is measured, once for each library: bench.c includes it with CALL(name) and TEST(name) as that library's names. Each makes n calls and answers with
-   a sum over what it got, which must be the same for all. Buffers are not cleared between calls. */
+   a sum over what it got, which must be the same for all. Calls of one kind go round the maps of that kind. Buffers are not cleared between calls. */
 
 MEASURED uint64_t TEST(others)(uint64_t n)
 {
@@ -19,49 +19,81 @@ MEASURED uint64_t TEST(learn)(uint64_t n)
     return sum;
 }
 
-MEASURED uint64_t TEST(judge8)(uint64_t n)
+/* Each key's row is made held again by its state word, so that the next forget finds it. */
+MEASURED uint64_t TEST(forget)(uint64_t n)
 {
     uint64_t sum = 0;
-    for (uint64_t i = 0; i < n; i++)
-        sum += CALL(table_judge)(box.table, EIGHT).judgement + 1;
-    return sum;
-}
-
-MEASURED uint64_t TEST(judge30)(uint64_t n)
-{
-    uint64_t sum = 0;
-    for (uint64_t i = 0; i < n; i++)
-        sum += CALL(table_judge)(box.table, THIRTY).judgement + 1;
-    return sum;
-}
-
-MEASURED uint64_t TEST(pack8)(uint64_t n)
-{
-    uint64_t sum = 0;
-    fill();
     for (uint64_t i = 0; i < n; i++) {
-        numbers[i % 8] = i & 1;
-        sum += CALL(table_pack)(box.table, EIGHT, numbers, 8, payload, sizeof payload).detail + payload[i % 8];
+        const struct key *key = &keys[i % KEYS];
+        sum += CALL(table_forget)(spare.table, key->source, 39, key->k).number + 1;
+        spare.table[i % KEYS * ROW] = 1;
     }
     return sum;
 }
 
-MEASURED uint64_t TEST(read8)(uint64_t n)
-{
-    uint64_t sum = 0;
-    fill();
-    for (uint64_t i = 0; i < n; i++) {
-        payload[i % 8] = (uint8_t)i;
-        sum += CALL(table_read)(box.table, EIGHT, payload, 8, numbers, 8).detail + numbers[i % 8];
-    }
-    return sum;
-}
-
-MEASURED uint64_t TEST(find8)(uint64_t n)
+MEASURED uint64_t TEST(count)(uint64_t n)
 {
     uint64_t sum = 0;
     for (uint64_t i = 0; i < n; i++)
-        sum += CALL(table_find)(box.table, EIGHT, spns[i % 8]).position;
+        sum += CALL(table_count)(box.table, keys[i % KEYS].source, 39, keys[i % KEYS].k);
+    return sum;
+}
+
+/* judge, pack and read by the maps of one kind */
+#define OVER_MAPS(kind, words) \
+    MEASURED uint64_t TEST(judge_##kind)(uint64_t n) \
+    { \
+        uint64_t sum = 0; \
+        for (uint64_t i = 0; i < n; i++) \
+            sum += CALL(table_judge)(words, 38, 39, (uint8_t)(FIRST_##kind + i % MAPS)).judgement + 1; \
+        return sum; \
+    } \
+    MEASURED uint64_t TEST(pack_##kind)(uint64_t n) \
+    { \
+        uint64_t sum = 0; \
+        fill(); \
+        for (uint64_t i = 0; i < n; i++) { \
+            struct map *m = &maps_##kind[i % MAPS]; \
+            numbers[0] = i & 1; \
+            sum += CALL(table_pack)(words, 38, 39, (uint8_t)(FIRST_##kind + i % MAPS), numbers, m->n, payload, sizeof payload).detail \
+                + payload[i % m->bytes]; \
+        } \
+        return sum; \
+    } \
+    MEASURED uint64_t TEST(read_##kind)(uint64_t n) \
+    { \
+        uint64_t sum = 0; \
+        fill(); \
+        for (uint64_t i = 0; i < n; i++) { \
+            struct map *m = &maps_##kind[i % MAPS]; \
+            payload[i % m->bytes] = (uint8_t)i; \
+            sum += CALL(table_read)(words, 38, 39, (uint8_t)(FIRST_##kind + i % MAPS), payload, m->bytes, numbers, m->n).detail + numbers[i % m->n]; \
+        } \
+        return sum; \
+    }
+OVER_MAPS(8, box.table)
+OVER_MAPS(30, box.table)
+OVER_MAPS(64, wide_box.table)
+OVER_MAPS(1, wide_box.table)
+#undef OVER_MAPS
+
+/* One in eight is not in the map. */
+MEASURED uint64_t TEST(find)(uint64_t n)
+{
+    uint64_t sum = 0;
+    for (uint64_t i = 0; i < n; i++)
+        sum += CALL(table_find)(box.table, 38, 39, (uint8_t)(FIRST_8 + i % MAPS), i % 8 ? maps_8[i % MAPS].spns[i % 8] : 9).position;
+    return sum;
+}
+
+/* Positions 1 to 8 in turn. */
+MEASURED uint64_t TEST(parameter)(uint64_t n)
+{
+    uint64_t sum = 0;
+    for (uint64_t i = 0; i < n; i++) {
+        yendrolf_parameter got = CALL(table_parameter_at)(box.table, 38, 39, (uint8_t)(FIRST_8 + i % MAPS), (uint8_t)(1 + i % 8));
+        sum += got.spn + got.start + got.width;
+    }
     return sum;
 }
 
@@ -81,14 +113,26 @@ MEASURED uint64_t TEST(decide32)(uint64_t n)
     return sum;
 }
 
-MEASURED uint64_t TEST(listing)(uint64_t n)
+MEASURED uint64_t TEST(feed)(uint64_t n)
 {
-    static char text[1024];
-    yendrolf_log log = CALL(log_start)();
+    yendrolf_log log = CALL(start_log)();
     CALL(table_empty)(other_box.table);
     for (uint64_t fed = 0; fed < n; fed += RECORDS)
         log = CALL(table_feed)(other_box.table, log, records, sizeof records);
-    return CALL(table_finish)(other_box.table, log, (uint8_t *)text, sizeof text).detail + log.refused + log.other + (uint8_t)text[40];
+    return log.records + log.refused + log.other;
+}
+
+MEASURED uint64_t TEST(finish)(uint64_t n)
+{
+    static uint8_t text[512];
+    yendrolf_log log = CALL(start_log)();
+    uint64_t sum = 0;
+    memset(text, 0, sizeof text);   /* what a shorter listing leaves is looked at too */
+    for (uint64_t i = 0; i < n; i++) {
+        log.records = i;
+        sum += CALL(table_finish)(box.table, log, text, sizeof text).detail + text[i % 300];
+    }
+    return sum;
 }
 
 #undef CALL

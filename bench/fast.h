@@ -12,15 +12,17 @@
 void FAST(table_empty)(uint64_t *table);
 yendrolf_told FAST(table_learn)(uint64_t *table, uint32_t identifier, uint8_t length, const uint8_t *data);
 yendrolf_told FAST(table_forget)(uint64_t *table, uint8_t source, uint8_t destination, uint8_t k);
+uint32_t FAST(table_count)(const uint64_t *table, uint8_t source, uint8_t destination, uint8_t k);
 yendrolf_told FAST(table_judge)(const uint64_t *table, uint8_t source, uint8_t destination, uint8_t k);
 yendrolf_told FAST(table_pack)(const uint64_t *table, uint8_t source, uint8_t destination, uint8_t k, const uint32_t *numbers, size_t count,
     uint8_t *payload, size_t size);
 yendrolf_told FAST(table_read)(const uint64_t *table, uint8_t source, uint8_t destination, uint8_t k, const uint8_t *payload, size_t size,
     uint32_t *numbers, size_t room);
 yendrolf_found FAST(table_find)(const uint64_t *table, uint8_t source, uint8_t destination, uint8_t k, uint32_t spn);
+yendrolf_parameter FAST(table_parameter_at)(const uint64_t *table, uint8_t source, uint8_t destination, uint8_t k, uint8_t position);
 yendrolf_key FAST(table_first_key)(const uint64_t *table);
 yendrolf_key FAST(table_next_key)(const uint64_t *table, uint8_t source, uint8_t destination, uint8_t k);
-yendrolf_log FAST(log_start)(void);
+yendrolf_log FAST(start_log)(void);
 yendrolf_log FAST(table_feed)(uint64_t *table, yendrolf_log log, const uint8_t *chunk, size_t size);
 yendrolf_told FAST(table_finish)(const uint64_t *table, yendrolf_log log, uint8_t *text, size_t room);
 void FAST(filters_fresh)(uint32_t *filters);

@@ -1,5 +1,6 @@
 /* A header's box in C, from its start to a day's work: it learns document 01's case A from two frames, judges it, packs and reads a payload, finds a
-   parameter, keeps an engine's frames off one port, and forgets. examples/run builds it, runs it, and compares what it prints with examples/hitch.txt. */
+   parameter, meets a contradiction and forgets, lists a log, and keeps an engine's frames off one port. examples/run builds it, runs it, and compares what it
+   prints with examples/hitch.txt. */
 #include <stdio.h>
 
 #include "../include/yendrolf.h"
@@ -14,14 +15,29 @@ static void say(const char *what, yendrolf_told told)
     printf("\n");
 }
 
+/* A frame as a record of a log: identifier least significant byte first, length, 8 data bytes. */
+static void record(uint8_t *r, uint32_t identifier, const uint8_t *data)
+{
+    for (unsigned i = 0; i < 4; i++)
+        r[i] = (uint8_t)(identifier >> 8 * i);
+    r[4] = YENDROLF_FRAME_BYTES;
+    for (unsigned i = 0; i < YENDROLF_FRAME_BYTES; i++)
+        r[5 + i] = data[i];
+}
+
 int main(void)
 {
+    if (yendrolf_version() != YENDROLF_VERSION) {
+        printf("the archive has version %u, its header %u: take both from one place\n", yendrolf_version(), YENDROLF_VERSION);
+        return 1;
+    }
     yendrolf_start(&box);
 
-    /* From 38 to 39: message 1 has two parameters, SPN 1517 from bit 1 on (002 counts from 1) and SPN 1519 from bit 9 on. */
-    static const uint8_t first[8] = { 0x00, 0xb1, 0x00, 0xed, 0x05, 0x01, 0x02, 1 };
-    static const uint8_t second[8] = { 0x00, 0xb1, 0x00, 0xef, 0x05, 0x02, 0x02, 9 };
-    static const uint8_t other[8] = { 0x00, 0xb1, 0x00, 0xef, 0x05, 0x02, 0x02, 10 };
+    /* From 38 to 39: message 1 has two parameters, SPN 1517 from bit 1 on (SAE J1939-74 counts from 1) and SPN 1519 from bit 9 on. Byte 7: used
+       proprietarily (80h, which the standard asks for), no transport, two parameters. */
+    static const uint8_t first[8] = { 0x00, 0xb1, 0x00, 0xed, 0x05, 0x01, 0x82, 1 };
+    static const uint8_t second[8] = { 0x00, 0xb1, 0x00, 0xef, 0x05, 0x02, 0x82, 9 };
+    static const uint8_t other[8] = { 0x00, 0xb1, 0x00, 0xef, 0x05, 0x02, 0x82, 10 };
     say("learn position 1", yendrolf_learn(&box, 0x18b02726, 8, first));
     say("judge: position 2 is missing", yendrolf_judge(&box, 38, 39, 1));
     say("learn position 2", yendrolf_learn(&box, 0x18b02726, 8, second));
@@ -54,13 +70,27 @@ int main(void)
     say("forget", yendrolf_forget(&box, 38, 39, 1));
     say("judge: not held", yendrolf_judge(&box, 38, 39, 1));
 
+    uint8_t records[2 * YENDROLF_RECORD_BYTES], text[YENDROLF_LISTING_BYTES];
+    record(records, 0x18b02726, first);
+    record(records + YENDROLF_RECORD_BYTES, 0x18b02726, second);
+    yendrolf_log log = yendrolf_start_log();
+    log = yendrolf_feed(&box, log, records, 20);   /* a chunk may end anywhere */
+    log = yendrolf_feed(&box, log, records + 20, sizeof records - 20);
+    yendrolf_told listed = yendrolf_finish(&box, log, text, sizeof text);
+    say("list a log of these two frames", listed);
+    printf("%.*s", (int)listed.detail, (const char *)text);
+
     say("keep 65251 from port 1 off port 2", yendrolf_add(&box, 1, 2, 65251));
     say("does 18FEE300h pass from 1 to 2?", yendrolf_decide(&box, 1, 2, 0x18fee300));
     say("does 18FEE300h pass from 2 to 1?", yendrolf_decide(&box, 2, 1, 0x18fee300));
-    say("set mode 1 while one is listed", yendrolf_set_mode(&box, 1, 2, 1));
+    say("set mode 1 while one is listed", yendrolf_set_mode(&box, 1, 2, YENDROLF_BLOCK_ALL_BUT));
     say("clear", yendrolf_clear(&box, 1, 2));
-    say("set mode 1", yendrolf_set_mode(&box, 1, 2, 1));
+    say("set mode 1", yendrolf_set_mode(&box, 1, 2, YENDROLF_BLOCK_ALL_BUT));
     say("does 18FEE300h pass from 1 to 2?", yendrolf_decide(&box, 1, 2, 0x18fee300));
+    say("add 65251", yendrolf_add(&box, 1, 2, 65251));
+    say("does 18FEE300h pass from 1 to 2?", yendrolf_decide(&box, 1, 2, 0x18fee300));
+    say("delete it", yendrolf_delete(&box, 1, 2, 65251));
+    say("delete it again", yendrolf_delete(&box, 1, 2, 65251));
     say("add to port 15", yendrolf_add(&box, 1, 15, 65251));
     return 0;
 }

@@ -1,39 +1,39 @@
-/* The box for C: learning Configuration Identification Messages, judging maps, packing and reading payloads, and the filter of a bridge of four ports.
+/* The box for C: learning Configuration Identification Messages, judging maps, packing and reading payloads, the listing of a log, and the filter of a
+ * bridge of four ports. examples/hitch.c has the calls at work; examples/socketcan.c is a loop on Linux' CAN sockets.
  *
  * Link with the archive that `rt staticlib firmware` writes (target/staticlib/libfirmware.a). Every function of it is proved against its contract
- * (crates/firmware); this header is not: nothing but tests/compare/run compares it with the Rattle source.
+ * (crates/firmware); this header is not: tests/header and tests/compare/run compare it with the archive.
+ *
+ * What it needs:
+ * - x86-64 Linux, no other machine, and a compiler of C99 or C++11 or later.
+ * - memcpy and memset, which the archive's code calls and which C's library has. It calls nobody else, allocates nothing and keeps nothing between calls.
+ * - Stack below the caller's own, in bytes: finish 3,000; judge, pack, read and find 2,300; parameter_at 1,400; every other call 400. It is a bound from the
+ *   archive's code (tests/stack), with 120 for the header's own function where the compiler does not inline it; what memcpy and memset take is not in it.
  *
  * How to call it:
- * - Lend one yendrolf_box, which may stand anywhere: the library keeps nothing between calls, allocates nothing and calls nobody.
+ * - Lend one yendrolf_box, which may stand anywhere that is aligned to 8. C aligns a variable by itself; a place inside other bytes is yours to align.
  * - Start with yendrolf_start. From then on change the box by these calls alone. (Any other words in it are answered too, and nothing traps.)
  * - No pointer may be null, and what a call may write must not overlap with anything else that is lent to the same call. A `data` has 8 bytes.
  * - One call at a time on one box. Two boxes do not know of each other.
  * - A number is what its type can hold: C makes 1 of a port 257 before the library sees it. (-Wconversion tells.)
- * - The archive is for x86-64 Linux; the words of a box are the machine's own, so a box is no file format.
+ * - The words of a box are the machine's own, so a box is no file format.
+ * - An identifier is the 29 bits and nothing else. SocketCAN has flags above them: give `can_id & CAN_EFF_MASK`, and give only frames with CAN_EFF_FLAG and
+ *   without CAN_RTR_FLAG and CAN_ERR_FLAG. A frame of 11 bits would be taken for another's of 29, and a remote frame has no data.
+ * - Look at an answer's number before its detail. Of yendrolf_decide too: pass is number 0 with detail 1; a refusal's detail is 0, and no decision.
+ * - Forget a key after answer 10: it stays in conflict, and no later message mends it; its sender has to say the whole map again. And forget every key
+ *   that has an address, as source or as destination, when the address changed hands: what is held was another's map (SAE J1939-74, 5.2.3).
  *
- * Every answer has a number from this list (document 01, "Answer numbers"). A refusal, which is any number but 0 and 10, changes nothing.
- *
- *    0 done                                              11 key not held
- *    1 identifier above 2^29 - 1                         12 map not usable: judgement and position say why
- *    2 PGN is not the Configuration Identification PGN   13 a lent buffer has the wrong length
- *    3 length is not 8                                   14 a packed number needs more than its width: the detail is its position
- *    4 source 254 or 255                                 15 not two different ports, each 1 to 4
- *    5 configured PGN not one of the fifteen             16 the pair's list holds 32 PGNs and this one is new
- *    6 (a flag is neither yes nor no: never arrives)     17 PGN above 262143, or PF below 240 with a low byte other than 0
- *    7 n, position or first-only out of range            18 SPN not in the map, or PGN not in the list
- *    8 no such starting bit                              19 filter mode not 0 or 1
- *    9 key new and 16 keys held                          20 mode changed while the list is not empty
- *   10 key in conflict, or put there by this message
- *
- * A judgement is the first of these that applies, with the lowest position that it applies to (0 where it is about no position):
- *    0 usable                                            5 its start is not above the start one position before
- *    1 in conflict                                       6 it shares a bit with an earlier one
- *    2 a position from 1 to n is missing                 7 it ends above payload bit 14280
- *    3 its SPN is not in the dictionary                  8 transport flag yes with a payload of 8 bytes, or no with a longer one
- *    4 its SPN stands at a lower position too
+ * Every answer's number is one of enum yendrolf_answer. A refusal, which is any number but 0 and 10, changes nothing; 10 changes its key's mark alone.
  */
 #ifndef YENDROLF_H
 #define YENDROLF_H
+
+#if !defined(__x86_64__) || defined(__ILP32__) || !defined(__linux__)
+#error "yendrolf.h: the archive is for x86-64 Linux only"
+#endif
+#if !defined(__cplusplus) && (!defined(__STDC_VERSION__) || __STDC_VERSION__ < 199901L)
+#error "yendrolf.h needs C99 or later: compile with -std=c99"
+#endif
 
 #include <stddef.h>
 #include <stdint.h>
@@ -42,21 +42,81 @@
 extern "C" {
 #endif
 
-/* Words of the learned table (16 keys) and of the filters (12 pairs of ports). */
-#define YENDROLF_TABLE_WORDS 1072
-#define YENDROLF_FILTER_WORDS 408
+/* The version of the calls: one more when a caller must be built again or changed. yendrolf_version() is that of the archive. */
+#define YENDROLF_VERSION 1u
 
-/* The largest n of a map, and the largest payload. */
-#define YENDROLF_MOST_NUMBERS 64
-#define YENDROLF_MOST_BYTES 1785
+/* The numbers of answers (document 01, "Answer numbers"). */
+enum yendrolf_answer {
+    YENDROLF_DONE = 0,
+    YENDROLF_BAD_IDENTIFIER = 1,        /* identifier above 2^29 - 1 */
+    YENDROLF_OTHER_PGN = 2,             /* PGN is not the Configuration Identification PGN */
+    YENDROLF_BAD_LENGTH = 3,            /* length is not 8 */
+    YENDROLF_BAD_SOURCE = 4,            /* source 254 or 255 */
+    YENDROLF_NOT_CONFIGURABLE = 5,      /* configured PGN not one of the fifteen */
+    YENDROLF_BAD_FLAG = 6,              /* a flag is neither yes nor no: never arrives, a flag is one bit */
+    YENDROLF_BAD_POSITION = 7,          /* n, position or first-only out of range */
+    YENDROLF_BAD_START = 8,             /* no such starting bit */
+    YENDROLF_TABLE_FULL = 9,            /* key new and 16 keys held */
+    YENDROLF_CONTRADICTED = 10,         /* key in conflict, or put there by this message */
+    YENDROLF_NOT_HELD = 11,             /* key not held */
+    YENDROLF_NOT_USABLE = 12,           /* map not usable: judgement and position say why */
+    YENDROLF_BAD_BUFFER = 13,           /* a lent buffer has the wrong length */
+    YENDROLF_TOO_WIDE = 14,             /* a packed number needs more than its width: the detail is the lowest such position */
+    YENDROLF_BAD_PORTS = 15,            /* not two different ports, each 1 to 4 */
+    YENDROLF_LIST_FULL = 16,            /* the pair's list holds 32 PGNs and this one is new */
+    YENDROLF_BAD_PGN = 17,              /* PGN above 262143, or PF below 240 with a low byte other than 0 */
+    YENDROLF_NOT_LISTED = 18,           /* SPN not in the map, nothing at the position, or PGN not in the list */
+    YENDROLF_BAD_MODE = 19,             /* filter mode not 0 or 1 */
+    YENDROLF_LIST_NOT_EMPTY = 20        /* mode changed while the list is not empty */
+};
 
-/* All that a box holds: 10,208 bytes. */
+/* The judgement of a map: the first of these that applies, with the lowest position that it applies to (0 where it is about no position). */
+enum yendrolf_judgement {
+    YENDROLF_USABLE = 0,
+    YENDROLF_IN_CONFLICT = 1,           /* two messages of the key contradict each other */
+    YENDROLF_MISSING = 2,               /* a position from 1 to n is missing */
+    YENDROLF_UNKNOWN = 3,               /* its SPN is not in the dictionary */
+    YENDROLF_REPEATED = 4,              /* its SPN stands at a lower position too */
+    YENDROLF_NOT_ABOVE = 5,             /* its start is not above the start one position before */
+    YENDROLF_OVERLAPS = 6,              /* it shares a bit with an earlier one */
+    YENDROLF_BEYOND = 7,                /* start + width above 14280 */
+    YENDROLF_TRANSPORT = 8              /* transport flag yes with a payload of 8 bytes, or no with a longer one */
+};
+
+/* The mode of a pair of ports, and the detail of a decision. */
+enum yendrolf_mode {
+    YENDROLF_PASS_ALL_BUT = 0,          /* passes all but the listed */
+    YENDROLF_BLOCK_ALL_BUT = 1          /* blocks all but the listed */
+};
+enum yendrolf_decision {
+    YENDROLF_BLOCK = 0,
+    YENDROLF_PASS = 1
+};
+
+/* Sizes. */
+enum yendrolf_size {
+    YENDROLF_TABLE_WORDS = 1072,        /* words of the learned table */
+    YENDROLF_FILTER_WORDS = 408,        /* words of the filters */
+    YENDROLF_BOX_BYTES = 10208,         /* bytes of a box */
+    YENDROLF_MOST_KEYS = 16,            /* keys that a table holds */
+    YENDROLF_MOST_NUMBERS = 64,         /* the largest n of a map */
+    YENDROLF_MOST_BYTES = 1785,         /* the largest payload */
+    YENDROLF_MOST_LISTED = 32,          /* PGNs that a pair's list holds */
+    YENDROLF_PORTS = 4,                 /* ports, 1 to 4 */
+    YENDROLF_FRAME_BYTES = 8,           /* data bytes of a frame */
+    YENDROLF_RECORD_BYTES = 13,         /* bytes of a log's record */
+    YENDROLF_LISTING_BYTES = 512,       /* enough for any listing */
+    YENDROLF_STACK_BYTES = 3000         /* stack of any call at most */
+};
+
+/* All that a box holds. */
 typedef struct {
     uint64_t table[YENDROLF_TABLE_WORDS];
     uint32_t filters[YENDROLF_FILTER_WORDS];
 } yendrolf_box;
 
-/* An answer. The detail is 0 unless the call says otherwise; judgement and position are 0 but for 12 and for 0 of judging. */
+/* An answer: `number` is of enum yendrolf_answer, `judgement` of enum yendrolf_judgement. The detail is 0 unless the call says otherwise; judgement and
+   position are 0 but for 12 and for 0 of judging. */
 typedef struct {
     uint32_t number;
     uint32_t detail;
@@ -72,24 +132,74 @@ typedef struct {
     uint32_t width;
 } yendrolf_found;
 
+/* The parameter at a position: SPN, start and width are 0 on a refusal, and the width is 0 where the dictionary does not have the SPN. */
+typedef struct {
+    yendrolf_told told;
+    uint32_t spn;
+    uint32_t start;
+    uint32_t width;
+} yendrolf_parameter;
+
 /* A held key, or that there is none: `held` is 1 or 0, and the others are 0 with it. */
 typedef struct {
-    uint32_t held;
-    uint32_t source;
-    uint32_t destination;
-    uint32_t k;
+    uint8_t held;
+    uint8_t source;
+    uint8_t destination;
+    uint8_t k;
 } yendrolf_key;
 
-/* What is kept of a log from chunk to chunk: its counts, and the bytes of a record that is not whole yet. */
+/* What is kept of a log from chunk to chunk: its counts, and the first `left` bytes of a record that is not whole yet. */
 typedef struct {
     uint64_t records;
     uint64_t refused;
     uint64_t other;
     uint64_t left;
-    uint8_t carry[13];
+    uint8_t carry[YENDROLF_RECORD_BYTES];
 } yendrolf_log;
 
-/* The functions of the archive, each on one part of a box. The calls below pass the part. */
+/* The archive was built for these sizes of the structs, and places and sizes of their fields. Where one is another, this does not compile: an array has the
+   length -1. */
+#define YENDROLF_CHECK(name, test) typedef char yendrolf_check_##name[(test) ? 1 : -1]
+#define YENDROLF_CHECK_STRUCT(type, size) YENDROLF_CHECK(type, sizeof(yendrolf_##type) == (size))
+#define YENDROLF_CHECK_FIELD(type, field, place, size) \
+    YENDROLF_CHECK(type##_##field, offsetof(yendrolf_##type, field) == (place) && sizeof(((yendrolf_##type *)0)->field) == (size))
+YENDROLF_CHECK(size_t, sizeof(size_t) == 8);
+YENDROLF_CHECK(pointer, sizeof(void *) == 8);
+YENDROLF_CHECK_STRUCT(box, YENDROLF_BOX_BYTES);
+YENDROLF_CHECK_FIELD(box, table, 0, 8576);
+YENDROLF_CHECK_FIELD(box, filters, 8576, 1632);
+YENDROLF_CHECK_STRUCT(told, 16);
+YENDROLF_CHECK_FIELD(told, number, 0, 4);
+YENDROLF_CHECK_FIELD(told, detail, 4, 4);
+YENDROLF_CHECK_FIELD(told, judgement, 8, 4);
+YENDROLF_CHECK_FIELD(told, position, 12, 4);
+YENDROLF_CHECK_STRUCT(found, 28);
+YENDROLF_CHECK_FIELD(found, told, 0, 16);
+YENDROLF_CHECK_FIELD(found, position, 16, 4);
+YENDROLF_CHECK_FIELD(found, start, 20, 4);
+YENDROLF_CHECK_FIELD(found, width, 24, 4);
+YENDROLF_CHECK_STRUCT(parameter, 28);
+YENDROLF_CHECK_FIELD(parameter, told, 0, 16);
+YENDROLF_CHECK_FIELD(parameter, spn, 16, 4);
+YENDROLF_CHECK_FIELD(parameter, start, 20, 4);
+YENDROLF_CHECK_FIELD(parameter, width, 24, 4);
+YENDROLF_CHECK_STRUCT(key, 4);
+YENDROLF_CHECK_FIELD(key, held, 0, 1);
+YENDROLF_CHECK_FIELD(key, source, 1, 1);
+YENDROLF_CHECK_FIELD(key, destination, 2, 1);
+YENDROLF_CHECK_FIELD(key, k, 3, 1);
+YENDROLF_CHECK_STRUCT(log, 48);
+YENDROLF_CHECK_FIELD(log, records, 0, 8);
+YENDROLF_CHECK_FIELD(log, refused, 8, 8);
+YENDROLF_CHECK_FIELD(log, other, 16, 8);
+YENDROLF_CHECK_FIELD(log, left, 24, 8);
+YENDROLF_CHECK_FIELD(log, carry, 32, 13);
+#undef YENDROLF_CHECK_FIELD
+#undef YENDROLF_CHECK_STRUCT
+#undef YENDROLF_CHECK
+
+/* ---- NOT TO BE CALLED: the functions of the archive, each on one part of a box. The calls below have their names without `table_` and `filters_`, take the box,
+   and pass the right part of it; called directly, nothing stops a wrong or a short one. */
 void yendrolf_table_empty(uint64_t *table);
 yendrolf_told yendrolf_table_learn(uint64_t *table, uint32_t identifier, uint8_t length, const uint8_t *data);
 yendrolf_told yendrolf_table_forget(uint64_t *table, uint8_t source, uint8_t destination, uint8_t k);
@@ -100,9 +210,9 @@ yendrolf_told yendrolf_table_pack(const uint64_t *table, uint8_t source, uint8_t
 yendrolf_told yendrolf_table_read(const uint64_t *table, uint8_t source, uint8_t destination, uint8_t k, const uint8_t *payload, size_t size,
     uint32_t *numbers, size_t room);
 yendrolf_found yendrolf_table_find(const uint64_t *table, uint8_t source, uint8_t destination, uint8_t k, uint32_t spn);
+yendrolf_parameter yendrolf_table_parameter_at(const uint64_t *table, uint8_t source, uint8_t destination, uint8_t k, uint8_t position);
 yendrolf_key yendrolf_table_first_key(const uint64_t *table);
 yendrolf_key yendrolf_table_next_key(const uint64_t *table, uint8_t source, uint8_t destination, uint8_t k);
-yendrolf_log yendrolf_log_start(void);
 yendrolf_log yendrolf_table_feed(uint64_t *table, yendrolf_log log, const uint8_t *chunk, size_t size);
 yendrolf_told yendrolf_table_finish(const uint64_t *table, yendrolf_log log, uint8_t *text, size_t room);
 void yendrolf_filters_fresh(uint32_t *filters);
@@ -111,6 +221,11 @@ yendrolf_told yendrolf_filters_delete(uint32_t *filters, uint8_t from, uint8_t t
 yendrolf_told yendrolf_filters_clear(uint32_t *filters, uint8_t from, uint8_t to);
 yendrolf_told yendrolf_filters_set_mode(uint32_t *filters, uint8_t from, uint8_t to, uint8_t mode);
 yendrolf_told yendrolf_filters_decide(const uint32_t *filters, uint8_t from, uint8_t to, uint32_t identifier);
+
+/* ---- TO BE CALLED, from here on. */
+
+/* The version of the archive: YENDROLF_VERSION, where it is the one that this header was written for. */
+uint32_t yendrolf_version(void);
 
 /* ---- the learned table. A key is (source, destination, k), k being the number of the configurable message, 1 to 15. */
 
@@ -166,6 +281,13 @@ static inline yendrolf_found yendrolf_find(const yendrolf_box *box, uint8_t sour
     return yendrolf_table_find(box->table, source, destination, k, spn);
 }
 
+/* The parameter at a position of a key's map, usable or not: 11; 18 where nothing stands there, as at each position of a key in conflict; or 0 with SPN, start
+   and width. After a judgement it says what stands at the position that the judgement names: of 3 the SPN that the dictionary does not have. */
+static inline yendrolf_parameter yendrolf_parameter_at(const yendrolf_box *box, uint8_t source, uint8_t destination, uint8_t k, uint8_t position)
+{
+    return yendrolf_table_parameter_at(box->table, source, destination, k, position);
+}
+
 /* The lowest held key, by source, then destination, then k, and the lowest above a given one (which need not be held). Keys in conflict are held. */
 static inline yendrolf_key yendrolf_first_key(const yendrolf_box *box)
 {
@@ -181,10 +303,7 @@ static inline yendrolf_key yendrolf_next_key(const yendrolf_box *box, uint8_t so
    finish. The box learns from the log as from frames. */
 
 /* Nothing read yet. */
-static inline yendrolf_log yendrolf_start_log(void)
-{
-    return yendrolf_log_start();
-}
+yendrolf_log yendrolf_start_log(void);
 
 /* Takes the next `size` bytes of a log, cut anywhere. */
 static inline yendrolf_log yendrolf_feed(yendrolf_box *box, yendrolf_log log, const uint8_t *chunk, size_t size)
@@ -231,7 +350,8 @@ static inline yendrolf_told yendrolf_set_mode(yendrolf_box *box, uint8_t from, u
     return yendrolf_filters_set_mode(box->filters, from, to, mode);
 }
 
-/* Decides on a frame from one port to another: 15, 1, or 0 with detail 1 for pass and 0 for block. */
+/* Decides on a frame from one port to another: 15, 1, or 0 with detail 1 for pass and 0 for block. The number is looked at first: the detail of 15 and 1 is 0
+   too, and no decision. */
 static inline yendrolf_told yendrolf_decide(const yendrolf_box *box, uint8_t from, uint8_t to, uint32_t identifier)
 {
     return yendrolf_filters_decide(box->filters, from, to, identifier);

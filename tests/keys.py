@@ -1,4 +1,4 @@
-"""The cases of the learned table: learning, forgetting, the held keys, what is asked about a key, and listings. Tags 4 to 14 of the
+"""The cases of the learned table: learning, forgetting, the held keys, what is asked about a key, and listings. Tags 4 to 15 of the
 program `runs`. tests/logs.py has more of the listings."""
 import model
 import rooms
@@ -77,6 +77,11 @@ class Run:
             found = self.says("find", key, spn)
             self.add(11, bytes(key) + word(spn), line(*found.answer, *found[1:]))
 
+    def parameter(self, key, *positions):
+        for position in positions:
+            there = self.says("parameter", key, position)
+            self.add(14, bytes(key) + bytes([position]), line(*there.answer, *there[1:]))
+
     def pack(self, key, numbers, buffer):
         answer, after = self.says("pack", key, numbers, buffer)
         given = case(12, bytes(key) + bytes([len(numbers)]) + len(buffer).to_bytes(2, "little"))
@@ -98,13 +103,14 @@ class Run:
         assert all(text == texts[0] for text in texts), (chunks, texts)
         answer, after = (Answer(0, len(texts[0])), texts[0] + room[len(texts[0]):]) if len(texts[0]) <= len(room) else (Answer(13), room)
         two = lambda number: number.to_bytes(2, "little")
-        given = case(14, two(len(chunks)) + two(len(room))) + b"".join(two(len(chunk)) + chunk for chunk in chunks) + room
+        given = case(15, two(len(chunks)) + two(len(room))) + b"".join(two(len(chunk)) + chunk for chunk in chunks) + room
         self.cases.append((given, [line(*answer), after.decode()]))
         return texts[0]
 
     def ask(self, dice, key):
-        """Everything that can be asked about a key: as it should be, and with lengths, numbers and SPNs that are wrong."""
+        """Everything that can be asked about a key: as it should be, and with lengths, numbers, SPNs and positions that are wrong."""
         self.judge(key)
+        self.parameter(key, *sorted({*range(min(self.says("count", key) + 3, 256)), 64, 65, 255}))
         rows = self.rows(key)
         if rows is None:
             self.find(key, 1517)
@@ -192,6 +198,7 @@ def examples(dice):
     run.pack(a[0][:3], [256, 4], [7] * 10)
     run.read(a[0][:3], [0x28, 0xFD] + [255] * 6, [7, 7])
     run.find(a[0][:3], 1517, 1519, 1518, 0)
+    run.parameter(a[0][:3], 1, 2, 0, 3)
     b = [EXAMPLE._replace(k=2, position=2, start=4), EXAMPLE._replace(k=2, spn=1519)]
     run.learn(*b)
     run.judge(b[0][:3])

@@ -1,5 +1,5 @@
-"""The cases of judging, packing and reading over plain lists, as the rooms maps and payload take them, and of looking up an SPN in
-rows: tags 8 to 11. The lists may be shorter or longer than a map needs; what the model is asked then is said in each function."""
+"""The cases of judging, packing and reading over plain lists, as the rooms judge and payload take them: tags 8 to 10. The lists may be
+shorter or longer than a map needs; what the model is asked then is said in each function."""
 import model
 from dice import TOP, case, line, words
 from model import Answer
@@ -19,10 +19,6 @@ def cases(dice):
         answer, after = read(starts, widths, payload, room)
         yield (asked(10, 0, 0, [], starts, widths, room, 0, len(payload)) + bytes(payload),
                [line(answer.number, answer.detail, *after)])
-    for n, rows, spn in lent(dice):
-        known = [row[0] for row in rows[:n]]
-        found = (1, known.index(spn), rows[known.index(spn)][1]) if spn in known else (0, 0)
-        yield asked(11, n, 0, [spn], [], [], [number for row in rows for number in row]), [line(*found)]
 
 
 def asked(tag, n, transport, spns, starts, widths, numbers=(), seed=0, size=0):
@@ -39,11 +35,9 @@ def pattern(seed, size):
 # ---- The model's answers over lists
 
 def rows_of(n, spns, starts, widths):
-    """Position p has the p-th of each list, and is missing where there is no width or the mark for none; an SPN or a start that
-    the lists haven't is 0."""
-    past_end = lambda numbers, p, other: numbers[p - 1] if p <= len(numbers) else other
-    return [None if past_end(widths, p, MISSING) == MISSING else (past_end(spns, p, 0), past_end(starts, p, 0), widths[p - 1])
-            for p in range(1, n + 1)]
+    """Position p has the p-th of each list, and is missing where a list ends before it, or has the mark for none as its width."""
+    whole = min(len(spns), len(starts), len(widths))
+    return [None if p > whole or widths[p - 1] == MISSING else (spns[p - 1], starts[p - 1], widths[p - 1]) for p in range(1, n + 1)]
 
 
 def placed_of(starts, widths):
@@ -275,11 +269,3 @@ def taken(dice):
         n = len(starts)
         room = dice.one_of([n, n, n, n + 1, n + 5, n - 1, dice.below(n)])
         yield starts, widths, dice.bytes(size), [dice.below(2**32) for _ in range(room)]
-
-
-def lent(dice):
-    """Rows that are no dictionary's: none, in no order, an SPN twice, any width. The first n of four are lent."""
-    for n in range(5):
-        for _ in range(12):
-            rows = [(dice.one_of([0, 1, 1517, 1519, TOP]), dice.one_of([0, 1, 8, 33, dice.below(2**32)])) for _ in range(4)]
-            yield n, rows, dice.one_of([rows[0][0], rows[3][0], 0, 1517, 1518, TOP])

@@ -1,4 +1,4 @@
-"""The cases of the listing: logs of any length, in chunks cut anywhere. Tag 14 of the program `runs`."""
+"""The cases of the listing: logs of any length, in chunks cut anywhere. Tag 15 of the program `runs`."""
 import keys
 import rooms
 from dice import word

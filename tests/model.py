@@ -16,6 +16,7 @@ HERE = os.path.dirname(os.path.abspath(__file__))
 Answer = namedtuple("Answer", "number detail judgement position", defaults=(0, 0, 0))
 Message = namedtuple("Message", "source destination k n proprietary transport position spn start")
 Found = namedtuple("Found", "answer position start width")
+Parameter = namedtuple("Parameter", "answer spn start width")
 Mode = namedtuple("Mode", "mode pgns")
 
 
@@ -283,6 +284,21 @@ class Box:
             if known == spn:
                 return Found(Answer(0), position, start, width)
         return Found(Answer(18), 0, 0, 0)
+
+    def place(self, key, position):
+        """The (SPN, start) that a held key's messages say of a position, or None. A key in conflict has no map, so nothing stands anywhere."""
+        if in_conflict(self.sets[key]):
+            return None
+        return next(((m.spn, m.start) for m in self.sets[key] if m.position == position), None)
+
+    def parameter(self, key, position):
+        """What stands at a position of a key's map, usable or not: 11, then 18 where nothing does; the width is 0 where the dictionary hasn't the SPN."""
+        if self.map(key) is None:
+            return Parameter(Answer(11), 0, 0, 0)
+        place = self.place(key, position)
+        if place is None:
+            return Parameter(Answer(18), 0, 0, 0)
+        return Parameter(Answer(0), *place, WIDTHS.get(place[0], 0))
 
     def keys(self):
         """The held keys, 'rising by source, destination, k'."""

@@ -24,6 +24,11 @@ def cell_of(message):
     return 1 + message.spn + message.start * 2**32
 
 
+def place_of(cell):
+    """The (SPN, start) of a cell, or None."""
+    return ((cell - 1) % 2**32, (cell - 1) // 2**32) if cell else None
+
+
 class Words(model.Box):
     """A box whose table is words."""
 
@@ -74,9 +79,14 @@ class Words(model.Box):
         if state != 1:
             return model.CONFLICT
         n, transport = form % 256, form // 512 % 2
-        places = [((cell - 1) % 2**32, (cell - 1) // 2**32) if cell else None for cell in cells]
+        places = [place_of(cell) for cell in cells]
         return n, transport, [(*place, model.WIDTHS.get(place[0], 0)) if place else None
                               for place in (places + [None] * n)[:n]]
+
+    def place(self, key, position):
+        """Each of the 64 positions has its cell, whatever n is."""
+        state, number, form, *cells = self.rows()[self.rows_of(key)[0]]
+        return place_of(cells[position - 1]) if state == 1 and 1 <= position <= 64 else None
 
     def keys(self):
         numbers = {row[1] for row in self.rows() if row[0] != 0 and row[1] < 2**24}

@@ -41,12 +41,13 @@ static yendrolf_box before;           /* the library's before the call */
 
 static uint64_t seed, calls, checks;
 
-enum call { LEARN, FORGET, COUNT, JUDGE, PACK, READ, FIND, KEYS, ADD, DELETE, CLEAR, MODE, DECIDE, LIST, KINDS };
-static const char *const call_names[KINDS] = { "learn", "forget", "count", "judge", "pack", "read", "find", "next key", "add", "delete", "clear", "set mode",
-    "decide", "listing" };
+enum call { LEARN, FORGET, COUNT, JUDGE, PACK, READ, FIND, PARAMETER, KEYS, ADD, DELETE, CLEAR, MODE, DECIDE, LIST, KINDS };
+static const char *const call_names[KINDS] = { "learn", "forget", "count", "judge", "pack", "read", "find", "parameter", "next key", "add", "delete", "clear",
+    "set mode", "decide", "listing" };
 static uint64_t answers[KINDS][21], kinds[KINDS];
 static uint64_t judgements[2][9];     /* of judging, and of answer 12 */
 static uint64_t pass_or_block[2], longest, most_numbers;
+static uint64_t unknown_told;         /* parameters whose SPN the dictionary has not */
 
 static char told_call[512];           /* the call under way, for a report */
 
@@ -476,6 +477,22 @@ static void find(struct intended m)
         differ("what was found");
 }
 
+/* The parameter at a position from 0 to 65, at 255, or at the one that the map's judgement names. */
+static void parameter_at(struct intended m)
+{
+    unsigned position = one_in(30) ? 255 : one_in(4) ? below(66) : below(m.n + 2);
+    if (one_in(4))
+        position = plain_judge(&plain, m.source, m.destination, m.k).position;
+    snprintf(told_call, sizeof told_call, "parameter %u %u %u, position %u", m.source, m.destination, m.k, position);
+    yendrolf_parameter a = yendrolf_parameter_at(&box, m.source, m.destination, m.k, (uint8_t)position);
+    struct plain_parameter b = plain_parameter_at(&plain, m.source, m.destination, m.k, position);
+    same(PARAMETER, a.told, b.answer);
+    unchanged();
+    if (a.spn != b.spn || a.start != b.start || a.width != b.width)
+        differ("the parameter");
+    unknown_told += b.answer.number == 0 && b.width == 0;
+}
+
 static int same_key(yendrolf_key a, int held, unsigned source, unsigned destination, unsigned k)
 {
     if (!held)
@@ -521,6 +538,7 @@ static void check_table(void)
     for (unsigned i = 0; i < scene_keys; i++) {
         judge(scene[i]);
         find(scene[i]);
+        parameter_at(scene[i]);
     }
     checks++;
 }
@@ -640,7 +658,7 @@ static void listing(void)
 
 /* ---- scenes */
 
-/* Maps that no wire can carry, of up to 64 positions with starts up to 14,279, laid into the table's words as crates/table/specs/Layout.antt has
+/* Maps that no wire can carry, of up to 64 positions with starts up to 14,279, laid into the table's words as crates/keyrow/specs/Row.antt has
    them: state, key, n and flags, then a cell of SPN and start for each position. The other side learns the same messages. */
 static void lay_maps(void)
 {
@@ -711,6 +729,8 @@ static void one_call(void)
         read_any(any_key());
     else if (what < 700)
         find(any_key());
+    else if (what < 720)
+        parameter_at(any_key());
     else if (what < 740)
         next_key(any_key());
     else if (what < 840)
@@ -781,6 +801,7 @@ static void print_counts(void)
     for (unsigned j = 0; j <= 8; j++)
         printf("  %u %10" PRIu64 " %10" PRIu64 "\n", j, judgements[0][j], judgements[1][j]);
     printf("\ndecisions: pass %" PRIu64 ", block %" PRIu64 "\n", pass_or_block[1], pass_or_block[0]);
+    printf("parameters that the dictionary has not %" PRIu64 "\n", unknown_told);
     printf("longest payload %" PRIu64 " bytes, most numbers %" PRIu64 "\n", longest, most_numbers);
     printf("the whole box compared %" PRIu64 " times\n", checks);
 }

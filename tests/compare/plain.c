@@ -419,6 +419,30 @@ struct plain_found plain_find(const struct plain_box *box, unsigned source, unsi
     return found;
 }
 
+struct plain_parameter plain_parameter_at(const struct plain_box *box, unsigned source, unsigned destination, unsigned k, unsigned position)
+{
+    struct plain_parameter parameter;
+    memset(&parameter, 0, sizeof parameter);
+    unsigned i = set_of(box, source, destination, k);
+    if (i == 16) {
+        parameter.answer = answer(11, 0);
+        return parameter;
+    }
+    const struct plain_set *set = &box->sets[i];
+    parameter.answer = answer(18, 0);
+    if (in_conflict(set))   /* it has no map: nothing stands anywhere */
+        return parameter;
+    for (size_t j = 0; j < set->count; j++) {
+        if (set->messages[j].position == position) {
+            parameter.answer = answer(0, 0);
+            parameter.spn = set->messages[j].spn;
+            parameter.start = set->messages[j].start;
+            parameter.width = plain_width(parameter.spn);
+        }
+    }
+    return parameter;
+}
+
 /* ---- the held keys in order */
 
 /* "rising by source, destination, k" */

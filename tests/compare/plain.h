@@ -23,6 +23,14 @@ struct plain_found {
     unsigned width;
 };
 
+/* The parameter at a position: all 0 on a refusal, and the width 0 where the dictionary has not the SPN. */
+struct plain_parameter {
+    struct plain_answer answer;
+    unsigned spn;
+    unsigned start;
+    unsigned width;
+};
+
 /* What one message says and is kept (01, "What one message says"). The start counts from 0, the position from 1. */
 struct plain_message {
     unsigned source, destination, k;
@@ -64,6 +72,9 @@ struct plain_answer plain_pack(const struct plain_box *box, unsigned source, uns
 struct plain_answer plain_read(const struct plain_box *box, unsigned source, unsigned destination, unsigned k, const uint8_t *payload, size_t size,
     uint32_t *numbers, size_t room);
 struct plain_found plain_find(const struct plain_box *box, unsigned source, unsigned destination, unsigned k, uint32_t spn);
+
+/* The parameter at a position of a key's map, usable or not: 11, then 18 where nothing stands there (so at each position of a key in conflict), else 0. */
+struct plain_parameter plain_parameter_at(const struct plain_box *box, unsigned source, unsigned destination, unsigned k, unsigned position);
 
 /* n of a key's messages; 0 where the key is in conflict or not held. */
 unsigned plain_count(const struct plain_box *box, unsigned source, unsigned destination, unsigned k);

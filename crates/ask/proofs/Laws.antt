@@ -2,32 +2,36 @@
 -- other, and where the bits stand. Assumes nothing.
 use Prim.Native.Nat.{ℕ, suc, _*_, _/_, _%_, _≤_, _<_}
 use mathlib.Core.Path.{_≡_, refl, sym, ap, _∙_}
-use mathlib.Core.Bool.{Bool, true, false, cond, not, _||_}
-use mathlib.Core.Option.{Option}
-use mathlib.Core.List.{List, _++_}
+use mathlib.Core.Bool.{true, false, not}
+use mathlib.Core.List.{List, [], _∷_, _++_}
 use native.Mathlib.Decide.{decLt}
 use native.Mathlib.Omega.{arith}
-use borrow.Author.Tests.{eq-eqb, ne-eqb, lt-ltb, le-ltb, eqb-true, ltb-false, not-false}
-use lib.Dec.{eqb, ltb}
+use borrow.Author.Tests.{eq-eqb, ne-eqb, lt-ltb, le-ltb, eqb-true, ltb-false, not-false, not-true}
+use lib.Dec.{T, eqb, ltb}
 use lib.ListN.{length, getD, take, drop, List·getD-append}
 use lib.Seq.{take-at, drop-at}
-use Rattle.answers.specs.Answers.{Judged, Said, plain, detailed, done, unusable, Outcome, outcome}
+use Rattle.answers.specs.Answers.{Said, plain, done, unusable, Outcome, outcome}
+use Rattle.answers.specs.Tests.{Test, _when_, inOrder}
 use Rattle.answers.proofs.Cases.{same-answer}
-use Rattle.payload.specs.Bits.{bitOf, bitAt}
-use Rattle.payload.specs.Place.{placeIn, assigned}
-use Rattle.payload.specs.Payload.{packed, readNumber, readAll, filled, Apart, Fit}
+use Rattle.answers.proofs.Tests.{noneGives, only-rest, only-at, leaves}
+use Rattle.bits.specs.Bits.{bit, bitAt, readNumber}
+use Rattle.places.specs.Place.{bitPlace, assigned, Apart}
+use Rattle.payload.specs.Payload.{packed, readAll, filled, Fit}
 use Rattle.payload.specs.Calls.{tooWideIn}
-use Rattle.payload.proofs.Below.{neither, lowest-at, lowest-none}
-use Rattle.payload.proofs.Bits.{from-lt, bitAt-lt, get-tabulate}
-use Rattle.payload.proofs.Placed.{none-wide, fit-none-wide}
+use Rattle.words.proofs.Lowest.{neither, lowest-at, lowest-none}
+use Rattle.bits.proofs.Bits.{from-lt, bitAt-lt}
+use Rattle.words.proofs.Lists.{get-tabulate}
+use Rattle.payload.proofs.Fit.{none-wide, fit-none-wide}
 use Rattle.payload.proofs.Laws.{packed-at, packed-other, packed-length, read-packed, packed-read, read-length}
 use Rattle.maps.specs.Maps.{Map}
-use Rattle.maps.specs.Judge.{Param, spnAt, judge, usable, countOf, paramsOf, startsOf, widthsOf, lengthOf}
-use Rattle.words.proofs.Tests.{test, never}
-use Rattle.maps.proofs.Judged.{lists-length, usable-sound, usable-apart, usable-length}
+use Rattle.judge.specs.Judge.{spnAt, judge, usable, countOf, paramsOf, startsOf, widthsOf, lengthOf}
+use Rattle.words.proofs.Tests.{never}
+use Rattle.judge.proofs.Judged.{lists-length, usable-sound, usable-apart, usable-length}
 use Rattle.ask.specs.declared.Found.{Found}
-use Rattle.ask.specs.Ask.{isHeld, ifUsable, packedBy, readBy, Finding, foundIn, notFound, foundAt, foundBy, positionOf}
-use Rattle.ask.proofs.Calls.{held-usable, if-good, if-bad}
+use Rattle.ask.specs.declared.Parameter.{Parameter}
+use Rattle.open.specs.Open.{isHeld}
+use Rattle.ask.specs.Ask.{keyTests, packTests, packDone, packedBy, readTests, readDone, readBy, Finding, foundIn, notFound, foundAt, findTests, foundBy, positionOf, Standing, standingIn}
+use Rattle.ask.proofs.Calls.{held-usable, usable-held, pack-bad, read-bad, find-bad}
 
 -- numbers that were read need no more than their widths
 read-fit : (ss ws payload : List ℕ) → Fit ss ws (readAll ss ws payload)
@@ -43,7 +47,7 @@ answerNumber o = o .answer .number
 -- a payload bit of the first bytes of a buffer
 bit-first : (xs ys : List ℕ) (p : ℕ) → p < 8 * length xs → bitAt (xs ++ ys) p ≡ bitAt xs p
 unfolding bitAt
-bit-first xs ys p l = ap (λ (x : ℕ). bitOf x (p % 8)) (List·getD-append xs ys 0 (p / 8) (omega arith))
+bit-first xs ys p l = ap (λ (x : ℕ). bit x (p % 8)) (List·getD-append xs ys 0 (p / 8) (omega arith))
 
 module _ (widthOf : ℕ → ℕ) (m : Map) where
   abbrev ss : List ℕ
@@ -58,63 +62,40 @@ module _ (widthOf : ℕ → ℕ) (m : Map) where
   abbrev pub Unusable : Type 0
   Unusable = (isHeld m ≡ true) × (judge widthOf m .number ≡ 0 → ⊥)
 
-  -- 12 comes from the test of the judgement alone
-  only-12 : {A : Type 0} (number : A → ℕ) (refused : Said → A) (rest : A) → ((a : Said) → number (refused a) ≡ a .number) → (number rest ≡ 12 → ⊥)
-      → number (ifUsable widthOf m refused rest) ≡ 12 → Unusable
-  only-12 number refused rest same other e =
-      test (isHeld m)
-      (λ h. test (usable widthOf m) (λ u. absurd (other (sym (ap number (if-good widthOf m refused rest u)) ∙ e)))
-      (λ f. (h, λ z. never (held-usable widthOf m h z) f)))
-      (λ f. let z : number (refused (plain 11)) ≡ 12 = rw f at e in absurd (omega (arith, same (plain 11), z)))
-
-  -- 0 is given to a usable map alone
-  only-0 : {A : Type 0} (number : A → ℕ) (refused : Said → A) (rest : A) → ((a : Said) → number (refused a) ≡ a .number)
-      → number (ifUsable widthOf m refused rest) ≡ 0 → (usable widthOf m ≡ true) × (number rest ≡ 0)
-  only-0 number refused rest same e =
-      test (isHeld m)
-      (λ h. test (usable widthOf m) (λ u. (u, sym (ap number (if-good widthOf m refused rest u)) ∙ e))
-      (λ f. let z : number (refused (unusable (judge widthOf m))) ≡ 0 = rw (h, f) at e in absurd (omega (arith, same (unusable (judge widthOf m)), z))))
-      (λ f. let z : number (refused (plain 11)) ≡ 0 = rw f at e in absurd (omega (arith, same (plain 11), z)))
+  -- 12 comes from the test of the judgement alone, whatever is tested after it
+  only-12 : {B : Type 0} (number : B → ℕ) (refuse : Said → B) → ((a : Said) → number (refuse a) ≡ a .number) → (later : List (Test Said)) (rest : B)
+      → number (inOrder refuse (keyTests widthOf m ++ later) rest) ≡ 12 → T (noneGives 12 later) → T (not (eqb (number rest) 12)) → Unusable
+  only-12 number refuse same later rest e l r =
+      let (n, y) = only-at number refuse same 12 (unusable (judge widthOf m) when not (usable widthOf m)) later rest (plain 11 when not (isHeld m) ∷ []) e tt l r in
+      let h = not-false _ (n .0) in
+      (h, λ z. never (held-usable widthOf m h z) (not-true _ y))
 
   -- pack answers 12 exactly where the map is held and its judgement isn't 0
   pub pack-12 : (numbers out : List ℕ) → (packedBy widthOf m numbers out .answer .number ≡ 12 → Unusable)
       × (Unusable → packedBy widthOf m numbers out ≡ outcome (unusable (judge widthOf m)) out)
   unfolding packedBy
   pack-12 numbers out = (
-    only-12 answerNumber (λ a. outcome a out) _ (λ a. refl)
-        (other (not (eqb (length numbers) (countOf m)) || ltb (length out) (lengthOf widthOf m)) (ltb 0 (tooWideIn ws numbers)) _ _ _),
-    λ u. if-bad widthOf m (λ a. outcome a out) _ (u .0) (u .1),
+    λ e. only-12 answerNumber (λ a. outcome a out) (λ a. refl) (packTests widthOf m numbers out) (packDone widthOf m numbers out) e tt tt,
+    λ u. pack-bad widthOf m (u .0) (u .1) numbers out,
   )
-    where
-      other : (a b : Bool) (d l : ℕ) (p : List ℕ) → cond a (outcome (plain 13) out) (cond b (outcome (detailed 14 d) out) (outcome (done l) p)) .answer .number ≡ 12 → ⊥
-      other true b d l p e = omega arith
-      other false true d l p e = omega arith
-      other false false d l p e = omega arith
 
   -- and so does read
   pub read-12 : (payload room : List ℕ) → (readBy widthOf m payload room .answer .number ≡ 12 → Unusable)
       × (Unusable → readBy widthOf m payload room ≡ outcome (unusable (judge widthOf m)) room)
   unfolding readBy
   read-12 payload room = (
-    only-12 answerNumber (λ a. outcome a room) _ (λ a. refl) (other (not (eqb (length payload) (lengthOf widthOf m)) || ltb (length room) (countOf m)) _ _),
-    λ u. if-bad widthOf m (λ a. outcome a room) _ (u .0) (u .1),
+    λ e. only-12 answerNumber (λ a. outcome a room) (λ a. refl) (readTests widthOf m payload room) (readDone widthOf m payload room) e tt tt,
+    λ u. read-bad widthOf m (u .0) (u .1) payload room,
   )
-    where
-      other : (a : Bool) (l : ℕ) (p : List ℕ) → cond a (outcome (plain 13) room) (outcome (done l) p) .answer .number ≡ 12 → ⊥
-      other true l p e = omega arith
-      other false l p e = omega arith
 
   -- and find
   pub find-12 : (spn : ℕ) → (foundBy widthOf m spn .answer .number ≡ 12 → Unusable) × (Unusable → foundBy widthOf m spn ≡ notFound (unusable (judge widthOf m)))
   unfolding foundBy
   find-12 spn = (
-    only-12 (λ (f : Finding). f .answer .number) notFound _ (λ a. refl) (other (eqb (positionOf widthOf m spn) 0) (positionOf widthOf m spn) (paramsOf widthOf m (positionOf widthOf m spn))),
-    λ u. if-bad widthOf m notFound _ (u .0) (u .1),
+    λ e. only-12 (λ (f : Finding). f .answer .number) notFound (λ a. refl) (findTests widthOf m spn)
+        (foundAt (positionOf widthOf m spn) (paramsOf widthOf m (positionOf widthOf m spn))) e tt tt,
+    λ u. find-bad widthOf m (u .0) (u .1) spn,
   )
-    where
-      other : (a : Bool) (p : ℕ) (x : Option Param) → cond a (notFound (plain 18)) (foundAt p x) .answer .number ≡ 12 → ⊥
-      other true p x e = omega arith
-      other false p x e = omega arith
 
   -- ---- answer 0
 
@@ -123,72 +104,40 @@ module _ (widthOf : ℕ → ℕ) (m : Map) where
       → packedBy widthOf m numbers out ≡ outcome (done (lengthOf widthOf m)) (packed ss ws numbers ++ drop (lengthOf widthOf m) out)
   unfolding packedBy
   pack-done numbers out u f l =
-      if-good widthOf m (λ a. outcome a out) _ u
-      ∙ rw (eq-eqb (length numbers) (countOf m) (f .count ∙ lists-length widthOf m .1), le-ltb (length out) (lengthOf widthOf m) l, fit-none-wide ss ws numbers f)
+      rw (usable-held widthOf m u, u, eq-eqb (length numbers) (countOf m) (f .count ∙ lists-length widthOf m .1), le-ltb (length out) (lengthOf widthOf m) l, fit-none-wide ss ws numbers f)
 
   pub done-packs : (numbers out : List ℕ) → packedBy widthOf m numbers out .answer .number ≡ 0
       → (usable widthOf m ≡ true) × Fit ss ws numbers × (lengthOf widthOf m ≤ length out)
   unfolding packedBy
   done-packs numbers out e =
-      let (u, z) = only-0 answerNumber (λ a. outcome a out) _ (λ a. refl) e in
-      let (a, b) = passed (not (eqb (length numbers) (countOf m)) || ltb (length out) (lengthOf widthOf m)) (ltb 0 (tooWideIn ws numbers)) _ _ _ z in
+      let (_, (u, (a, (b, _)))) = only-rest answerNumber (λ a. outcome a out) (λ a. refl) 0 (keyTests widthOf m ++ packTests widthOf m numbers out) (packDone widthOf m numbers out) tt e .0 in
       let (c, d) = neither (not (eqb (length numbers) (countOf m))) (ltb (length out) (lengthOf widthOf m)) a in
       let n = eqb-true (length numbers) (countOf m) (not-false _ c) in
-      (u, none-wide ss ws numbers (n ∙ sym (lists-length widthOf m .1)) (omega (arith, ltb-false 0 (tooWideIn ws numbers) b)), ltb-false _ _ d)
-    where
-      passed : (a b : Bool) (d l : ℕ) (p : List ℕ) → cond a (outcome (plain 13) out) (cond b (outcome (detailed 14 d) out) (outcome (done l) p)) .answer .number ≡ 0
-          → (a ≡ false) × (b ≡ false)
-      passed true b d l p e = absurd (omega arith)
-      passed false true d l p e = absurd (omega arith)
-      passed false false d l p e = (refl, refl)
+      (not-false _ u, none-wide ss ws numbers (n ∙ sym (lists-length widthOf m .1)) (omega (arith, ltb-false 0 (tooWideIn ws numbers) b)), ltb-false _ _ d)
 
   -- reading is done exactly where the map is usable, the payload has L bytes, and there is room for n numbers
   pub read-done : (payload room : List ℕ) → usable widthOf m ≡ true → length payload ≡ lengthOf widthOf m → countOf m ≤ length room
       → readBy widthOf m payload room ≡ outcome (done (countOf m)) (readAll ss ws payload ++ drop (countOf m) room)
   unfolding readBy
   read-done payload room u e l =
-      if-good widthOf m (λ a. outcome a room) _ u ∙ rw (eq-eqb (length payload) (lengthOf widthOf m) e, le-ltb (length room) (countOf m) l)
+      rw (usable-held widthOf m u, u, eq-eqb (length payload) (lengthOf widthOf m) e, le-ltb (length room) (countOf m) l)
 
   pub done-reads : (payload room : List ℕ) → readBy widthOf m payload room .answer .number ≡ 0
       → (usable widthOf m ≡ true) × (length payload ≡ lengthOf widthOf m) × (countOf m ≤ length room)
   unfolding readBy
   done-reads payload room e =
-      let (u, z) = only-0 answerNumber (λ a. outcome a room) _ (λ a. refl) e in
-      let a = passed (not (eqb (length payload) (lengthOf widthOf m)) || ltb (length room) (countOf m)) _ _ z in
+      let (_, (u, (a, _))) = only-rest answerNumber (λ a. outcome a room) (λ a. refl) 0 (keyTests widthOf m ++ readTests widthOf m payload room) (readDone widthOf m payload room) tt e .0 in
       let (c, d) = neither (not (eqb (length payload) (lengthOf widthOf m))) (ltb (length room) (countOf m)) a in
-      (u, eqb-true (length payload) (lengthOf widthOf m) (not-false _ c), ltb-false _ _ d)
-    where
-      passed : (a : Bool) (l : ℕ) (p : List ℕ) → cond a (outcome (plain 13) room) (outcome (done l) p) .answer .number ≡ 0 → a ≡ false
-      passed true l p e = absurd (omega arith)
-      passed false l p e = refl
+      (not-false _ u, eqb-true (length payload) (lengthOf widthOf m) (not-false _ c), ltb-false _ _ d)
 
   -- "None" of a refusal: the buffer and the room hold what they held
   pub pack-refused : (numbers out : List ℕ) → (packedBy widthOf m numbers out .answer .number ≡ 0 → ⊥) → packedBy widthOf m numbers out .memory ≡ out
   unfolding packedBy
-  pack-refused numbers out n =
-      go (isHeld m) (usable widthOf m) (not (eqb (length numbers) (countOf m)) || ltb (length out) (lengthOf widthOf m)) (ltb 0 (tooWideIn ws numbers)) (judge widthOf m) _ _ _ n
-    where
-      go : (h u a b : Bool) (j : Judged) (d l : ℕ) (p : List ℕ)
-          → (cond (not h) (outcome (plain 11) out) (cond (not u) (outcome (unusable j) out) (cond a (outcome (plain 13) out) (cond b (outcome (detailed 14 d) out) (outcome (done l) p)))) .answer .number ≡ 0 → ⊥)
-          → cond (not h) (outcome (plain 11) out) (cond (not u) (outcome (unusable j) out) (cond a (outcome (plain 13) out) (cond b (outcome (detailed 14 d) out) (outcome (done l) p)))) .memory ≡ out
-      go false u a b j d l p n = refl
-      go true false a b j d l p n = refl
-      go true true true b j d l p n = refl
-      go true true false true j d l p n = refl
-      go true true false false j d l p n = absurd (n refl)
+  pack-refused numbers out n = leaves (keyTests widthOf m ++ packTests widthOf m numbers out) out (packDone widthOf m numbers out) n
 
   pub read-refused : (payload room : List ℕ) → (readBy widthOf m payload room .answer .number ≡ 0 → ⊥) → readBy widthOf m payload room .memory ≡ room
   unfolding readBy
-  read-refused payload room n =
-      go (isHeld m) (usable widthOf m) (not (eqb (length payload) (lengthOf widthOf m)) || ltb (length room) (countOf m)) (judge widthOf m) _ _ n
-    where
-      go : (h u a : Bool) (j : Judged) (l : ℕ) (p : List ℕ)
-          → (cond (not h) (outcome (plain 11) room) (cond (not u) (outcome (unusable j) room) (cond a (outcome (plain 13) room) (outcome (done l) p))) .answer .number ≡ 0 → ⊥)
-          → cond (not h) (outcome (plain 11) room) (cond (not u) (outcome (unusable j) room) (cond a (outcome (plain 13) room) (outcome (done l) p))) .memory ≡ room
-      go false u a j l p n = refl
-      go true false a j l p n = refl
-      go true true true j l p n = refl
-      go true true false j l p n = absurd (n refl)
+  read-refused payload room n = leaves (keyTests widthOf m ++ readTests widthOf m payload room) room (readDone widthOf m payload room) n
 
   -- ---- demand 2, on the calls: after packing answered 0
   module _ (numbers out : List ℕ) (e : packedBy widthOf m numbers out .answer .number ≡ 0) where
@@ -206,10 +155,10 @@ module _ (widthOf : ℕ → ℕ) (m : Map) where
     pack-size = let (a, b) = usable-length widthOf m (its .0) in (ap (λ (o : Outcome). o .answer) gives, a, b)
 
     -- bit k of the number at index i stands at its place
-    pub pack-bit : (i k : ℕ) → i < countOf m → k < getD ws i 0 → bitAt (packedBy widthOf m numbers out .memory) (placeIn ss ws i k) ≡ bitOf (getD numbers i 0) k
+    pub pack-bit : (i k : ℕ) → i < countOf m → k < getD ws i 0 → bitAt (packedBy widthOf m numbers out .memory) (bitPlace ss ws i k) ≡ bit (getD numbers i 0) k
     pack-bit i k l w =
         let h : i < length ss = rw (lists-length widthOf m .1) l in
-        ap (λ (o : Outcome). bitAt (o .memory) (placeIn ss ws i k)) gives
+        ap (λ (o : Outcome). bitAt (o .memory) (bitPlace ss ws i k)) gives
         ∙ bit-first (packed ss ws numbers) _ _ (rw (packed-length ss ws numbers) (apart .inside i k h w))
         ∙ packed-at ss ws numbers apart i k h w
 
@@ -261,7 +210,7 @@ module _ (widthOf : ℕ → ℕ) (m : Map) where
     unfolding packedBy
     never-14 out q =
         elim (decLt (length out) (lengthOf widthOf m)) [
-          | yes l ↦ let z : answerNumber (packedBy widthOf m numbers out) ≡ 13 = ap answerNumber (if-good widthOf m (λ a. outcome a out) _ (theirs .0)) ∙ rw (eq-eqb (length numbers) (countOf m) (fit .count ∙ lists-length widthOf m .1), lt-ltb (length out) (lengthOf widthOf m) l) in omega (arith, z, q)
+          | yes l ↦ let z : answerNumber (packedBy widthOf m numbers out) ≡ 13 = rw (usable-held widthOf m (theirs .0), theirs .0, eq-eqb (length numbers) (countOf m) (fit .count ∙ lists-length widthOf m .1), lt-ltb (length out) (lengthOf widthOf m) l) in omega (arith, z, q)
           | no l ↦ let z = ap answerNumber (pack-done numbers out (theirs .0) fit (omega arith)) in omega (arith, z, q)
         ]
 
@@ -280,8 +229,9 @@ module _ (widthOf : ℕ → ℕ) (m : Map) where
     pub find-one : (i : ℕ) → i < countOf m → spnAt (paramsOf widthOf m) i ≡ spn → foundBy widthOf m spn ≡ foundAt (suc i) (paramsOf widthOf m (suc i))
     unfolding foundBy positionOf
     find-one i l e =
-        if-good widthOf m notFound _ u
-        ∙ rw (
+        rw (
+          usable-held widthOf m u,
+          u,
           lowest-at (λ k. eqb (spnAt (paramsOf widthOf m) k) spn) (countOf m) i l
               (λ k h. ne-eqb _ _ (λ q. usable-sound widthOf m u .once k i h l (q ∙ sym e))) (eq-eqb _ _ e),
           ne-eqb (suc i) 0 (omega arith),
@@ -291,11 +241,16 @@ module _ (widthOf : ℕ → ℕ) (m : Map) where
     pub find-no : ((i : ℕ) → i < countOf m → spnAt (paramsOf widthOf m) i ≡ spn → ⊥) → foundBy widthOf m spn ≡ notFound (plain 18)
     unfolding foundBy positionOf
     find-no n =
-        if-good widthOf m notFound _ u
-        ∙ rw (lowest-none (λ k. eqb (spnAt (paramsOf widthOf m) k) spn) (countOf m) (λ i l. ne-eqb _ _ (n i l)))
+        rw (usable-held widthOf m u, u, lowest-none (λ k. eqb (spnAt (paramsOf widthOf m) k) spn) (countOf m) (λ i l. ne-eqb _ _ (n i l)))
 
 -- one finding in numbers, one value of the code's struct
 pub same-found : (f g : Found) → foundIn f ≡ foundIn g → f ≡ g
 same-found f g e =
     let a = same-answer (f .answer) (g .answer) (ap (λ (x : Finding). x .answer) e) in
     λ i. record { answer = a i; position = e i .position; start = e i .start; width = e i .width }
+
+-- and one of the struct of what stands at a position
+pub same-parameter : (p q : Parameter) → standingIn p ≡ standingIn q → p ≡ q
+same-parameter p q e =
+    let a = same-answer (p .answer) (q .answer) (ap (λ (x : Standing). x .answer) e) in
+    λ i. record { answer = a i; spn = e i .spn; start = e i .start; width = e i .width }

@@ -1,4 +1,5 @@
-pub mod Unfolded
 pub mod Calls
 pub mod Keys
 pub mod Laws
+pub mod Standing
+pub mod Finding

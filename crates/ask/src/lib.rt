@@ -1,30 +1,26 @@
 // Every question about a key: judging its map, packing and reading its payloads, finding an SPN in it (01, "Answer numbers"). The learned table is
-// lent as words; whatever they hold, each call has its defined answer, and none changes them. A call finds its key's row once and unfolds it once.
+// lent as words; whatever they hold, each call has its defined answer, and none changes them. A call opens its key's map once (crate open).
 ghost use mathlib.Core.Path.{_≡_};
-ghost use mathlib.Core.Bool.{cond};
-ghost use mathlib.Core.List.{List};
-ghost use Prim.Native.Nat.{ℕ, _≤_};
+ghost use Prim.Native.Nat.{_≤_};
 ghost use lib.Dec.{eqb};
 ghost use lib.ListN.{length, getD};
-ghost use Rattle.answers.specs.Answers.{saidOf, inNumbers, outcome};
-ghost use Rattle.payload.specs.Bits.{lowest};
-ghost use Rattle.payload.specs.Calls.{toldBy};
-ghost use Rattle.rows.specs.Rows.{pairs};
+ghost use Rattle.answers.specs.Answers.{inNumbers, outcome};
+ghost use Rattle.words.specs.First.{lowest};
 ghost use Rattle.dictionary.specs.Dictionary.{widthOf};
-ghost use Rattle.maps.specs.Judge.{spnIn, startIn, withWidth, mark, countOf, judge as judgementOf};
-ghost use Rattle.table.specs.Layout.{rowWords, positions, keyOf};
-ghost use Rattle.table.specs.View.{headOf, placeOf, rowMap, mapIn};
-ghost use Rattle.ask.specs.Ask.{judgedBy, packedBy, readBy, foundIn, notFound, foundBy};
-ghost use Rattle.ask.specs.Unfolded.{markedWidth, reach, unfolded, unfoldedIn, asOutcome};
+ghost use Rattle.judge.specs.Judge.{countOf};
+ghost use Rattle.keyrow.specs.Row.{rowWords, positions, keyOf};
+ghost use Rattle.open.specs.Open.{judgedBy};
+ghost use Rattle.ask.specs.Ask.{packedBy, readBy, foundIn, notFound, foundBy, standingIn, nowhere, standsBy};
+ghost use Rattle.ask.specs.Parts.{readyBy, cellAt, saidBy};
 use answers::Answer;
 use answers::Judgement;
+use keyrow::FORM;
+use keyrow::HELD;
+use keyrow::POSITIONS;
+use keyrow::STATE;
+use lookup::WORDS;
 use payload::Laying;
-use table::CELLS;
-use table::FORM;
-use table::HELD;
-use table::POSITIONS;
-use table::STATE;
-use table::WORDS;
+ghost use Rattle.lookup.specs.View.{mapIn};
 
 // What finding gives; position, start and width are 0 on a refusal.
 pub struct Found {
@@ -34,155 +30,45 @@ pub struct Found {
     pub width: u32,
 }
 
-// ---- the words of a row
-
-// The number of parameters.
-fn n_of(form: u64) -> u8
-    ensures { λ r. ⌜ r ≡ headOf form .n ⌝ }
-{
-    (form % 256) as u8
+// The parameter at a position; all 0 on a refusal, and the width 0 where the dictionary does not have the SPN.
+pub struct Parameter {
+    pub answer: Answer,
+    pub spn: u32,
+    pub start: u32,
+    pub width: u32,
 }
 
-// The transport flag.
-fn transport_of(form: u64) -> bool
-    ensures { λ r. ⌜ r ≡ headOf form .transport ⌝ }
-{
-    form / 512 % 2 == 1
-}
+// ---- what the calls begin and end with
 
-// The SPN of a cell, 0 where nothing stands there.
-fn spn_of(cell: u64) -> u32
-    ensures { λ r. ⌜ r ≡ spnIn (withWidth widthOf (placeOf cell)) ⌝ }
+// The tests that pack, read and find begin with, by what judging answered: 11, then 12; 0 where the map is usable.
+fn ready(answer: Answer) -> Answer
+    ensures { λ r. ⌜ inNumbers r ≡ readyBy (inNumbers answer) ⌝ }
 {
-    if cell == 0 {
-        return 0;
+    if answer.number != 0 {
+        return answer;
     }
-    ((cell - 1) % 4294967296) as u32
-}
-
-// The start of a cell, 0 where nothing stands there.
-fn start_of(cell: u64) -> u32
-    ensures { λ r. ⌜ r ≡ startIn (withWidth widthOf (placeOf cell)) ⌝ }
-{
-    if cell == 0 {
-        return 0;
+    let judgement = answer.judgement;
+    if answers::number_of(judgement) != 0 { // 12, before all that follows
+        return answers::not_usable(judgement);
     }
-    ((cell - 1) / 4294967296) as u32
+    answers::plainly(0) // usable
 }
 
-// The width of a cell's parameter by its SPN, or the mark that nothing stands there. Every width that a call uses comes from here, once for each
-// parameter.
-fn width_in(rows: &[[u32; 2]], cell: u64, spn: u32) -> u32
-    requires { ⌜ now rows ≡ pairs ⌝ }
-    ensures { λ r. ⌜ r ≡ cond (eqb cell 0) mark (widthOf spn) ⌝ }
-{
-    if cell == 0 {
-        return maps::MISSING;
-    }
-    dictionary::width_in(rows, spn)
-}
-
-// How many positions there are to unfold: n, and no more than a row has.
-fn reach_of(n: u8) -> usize
-    ensures { λ r. ⌜ (r ≡ reach n) × (r ≤ positions) ⌝ }
-{
-    let n = n as usize;
-    if POSITIONS < n {
-        return POSITIONS;
-    }
-    n
-}
-
-// Unfolds the first n cells of a row as SPNs, starts and widths. An empty cell asks nothing of the dictionary.
-fn unfold_row(
-    rows: &[[u32; 2]],
-    row: &[u64],
-    n: usize,
-    spns: &mut [u32],
-    starts: &mut [u32],
-    widths: &mut [u32],
-)
-    requires { ⌜ (now rows ≡ pairs) × (length (now row) ≡ rowWords) × (n ≤ positions) × (length (now spns) ≡ positions) × (length (now starts) ≡ positions) × (length (now widths) ≡ positions) ⌝ }
-    ensures { λ _. ⌜ (now (spns .exit) ≡ unfolded spnIn (now (row .entry)) n (now (spns .entry)))
-        × (now (starts .exit) ≡ unfolded startIn (now (row .entry)) n (now (starts .entry)))
-        × (now (widths .exit) ≡ unfolded markedWidth (now (row .entry)) n (now (widths .entry))) ⌝ }
-{
-    let mut i = 0;
-    while i < n {
-        let cell = row[CELLS + i];
-        let spn = spn_of(cell);
-        let start = start_of(cell);
-        spns[i] = spn;
-        starts[i] = start;
-        widths[i] = width_in(rows, cell, spn);
-        i += 1;
-    }
-}
-
-// Unfolds a row as far as its n asks, and judges its map. A position past the 64 is missing.
-fn judge_row(row: &[u64], spns: &mut [u32], starts: &mut [u32], widths: &mut [u32]) -> Judgement
-    requires { ⌜ (length (now row) ≡ rowWords) × (length (now spns) ≡ positions) × (length (now starts) ≡ positions) × (length (now widths) ≡ positions) ⌝ }
-    ensures { λ r. ⌜ (saidOf r ≡ judgementOf widthOf (rowMap (now (row .entry)))) × (now (spns .exit) ≡ unfoldedIn spnIn (now (row .entry)) (now (spns .entry)))
-        × (now (starts .exit) ≡ unfoldedIn startIn (now (row .entry)) (now (starts .entry)))
-        × (now (widths .exit) ≡ unfoldedIn markedWidth (now (row .entry)) (now (widths .entry))) ⌝ }
-{
-    let form = row[FORM];
-    let n = n_of(form);
-    let rows = rows::all();
-    unfold_row(&rows, row, reach_of(n), spns, starts, widths);
-    if row[STATE] != HELD { // in conflict, whatever the cells say
-        return Judgement::Conflict;
-    }
-    maps::judge(n, transport_of(form), spns, starts, widths)
-}
-
-// What packing or reading told, as an answer. Of a usable map each position has its place (law usable-placed), so that Unplaced never comes.
+// What packing or reading told, in 01's numbers. Of a usable map each position has its place (law usable-placed), so that Unplaced never comes.
 fn told(laying: Laying) -> Answer
-    ensures { λ r. ⌜ ((b : List ℕ) → outcome (inNumbers r) b ≡ asOutcome (toldBy laying b)) ⌝ }
+    ensures { λ r. ⌜ inNumbers r ≡ saidBy laying ⌝ }
 {
     match laying {
         Laying::Done(detail) => answers::with_detail(0, detail),
-        Laying::Unplaced(p) => answers::with_detail(12, p as u32),
+        Laying::Unplaced(p) => answers::not_usable(Judgement::Beyond(p)),
         Laying::Length => answers::plainly(13),
         Laying::TooWide(p) => answers::with_detail(14, p as u32),
     }
 }
 
-// Packs numbers for the map of a row.
-fn pack_row(row: &[u64], numbers: &[u32], out: &mut [u8]) -> Answer
-    requires { ⌜ length (now row) ≡ rowWords ⌝ }
-    ensures { λ r. ⌜ outcome (inNumbers r) (now (out .exit)) ≡ packedBy widthOf (rowMap (now (row .entry))) (now (numbers .entry)) (now (out .entry)) ⌝ }
-{
-    let mut spns = [0u32; POSITIONS];
-    let mut starts = [0u32; POSITIONS];
-    let mut widths = [0u32; POSITIONS];
-    let judgement = judge_row(row, &mut spns, &mut starts, &mut widths);
-    if answers::number_of(judgement) != 0 { // 12, before 13 and 14
-        return answers::not_usable(judgement);
-    }
-    let n = n_of(row[FORM]) as usize;
-    told(payload::pack(&starts[..n], &widths[..n], numbers, out))
-}
-
-// Reads a payload by the map of a row.
-fn read_row(row: &[u64], payload: &[u8], room: &mut [u32]) -> Answer
-    requires { ⌜ length (now row) ≡ rowWords ⌝ }
-    ensures { λ r. ⌜ outcome (inNumbers r) (now (room .exit)) ≡ readBy widthOf (rowMap (now (row .entry))) (now (payload .entry)) (now (room .entry)) ⌝ }
-{
-    let mut spns = [0u32; POSITIONS];
-    let mut starts = [0u32; POSITIONS];
-    let mut widths = [0u32; POSITIONS];
-    let judgement = judge_row(row, &mut spns, &mut starts, &mut widths);
-    if answers::number_of(judgement) != 0 { // 12, before 13
-        return answers::not_usable(judgement);
-    }
-    let n = n_of(row[FORM]) as usize;
-    told(payload::read(&starts[..n], &widths[..n], payload, room))
-}
-
 // The lowest position from 1 to n whose SPN it is, or 0.
-fn position_in(spns: &[u32], n: u8, spn: u32) -> u8
-    requires { ⌜ n ≤ length (now spns) ⌝ }
+fn position_in(spns: &[u32; POSITIONS], n: u8, spn: u32) -> u8
+    requires { ⌜ n ≤ positions ⌝ }
     ensures { λ r. ⌜ r ≡ lowest (λ i. eqb (getD (now (spns .entry)) i 0) spn) n ⌝ }
 {
     let mut i = 0;
@@ -207,29 +93,27 @@ fn refused(answer: Answer) -> Found
     }
 }
 
-// Finds an SPN in the map of a row.
-fn find_row(row: &[u64], spn: u32) -> Found
+// The cell of a position, and 0 where nothing stands there.
+fn cell_at(row: &[u64], position: u8) -> u64
     requires { ⌜ length (now row) ≡ rowWords ⌝ }
-    ensures { λ r. ⌜ foundIn r ≡ foundBy widthOf (rowMap (now (row .entry))) spn ⌝ }
+    ensures { λ r. ⌜ r ≡ cellAt (now (row .entry)) position ⌝ }
 {
-    let mut spns = [0u32; POSITIONS];
-    let mut starts = [0u32; POSITIONS];
-    let mut widths = [0u32; POSITIONS];
-    let judgement = judge_row(row, &mut spns, &mut starts, &mut widths);
-    if answers::number_of(judgement) != 0 { // 12, before 18
-        return refused(answers::not_usable(judgement));
+    let p = position as usize;
+    if (row[STATE] == HELD) & ((1 <= p) & (p <= POSITIONS)) {
+        return row[FORM + p];
     }
-    let position = position_in(&spns, n_of(row[FORM]), spn);
-    if position == 0 {
-        return refused(answers::plainly(18));
-    }
-    let i = (position - 1) as usize;
-    let answer = answers::plainly(0);
-    Found {
+    0
+}
+
+// A refusal of parameter_at.
+fn absent(answer: Answer) -> Parameter
+    ensures { λ r. ⌜ standingIn r ≡ nowhere (inNumbers answer) ⌝ }
+{
+    Parameter {
         answer,
-        position,
-        start: starts[i],
-        width: widths[i],
+        spn: 0,
+        start: 0,
+        width: 0,
     }
 }
 
@@ -239,28 +123,34 @@ fn find_row(row: &[u64], spn: u32) -> Found
 pub fn count(t: &[u64; WORDS], source: u8, destination: u8, k: u8) -> u8
     ensures { λ r. ⌜ r ≡ countOf (mapIn (now (t .entry)) (keyOf source destination k)) ⌝ }
 {
-    let row = table::row_of(t, source, destination, k);
+    let row = lookup::row_of(t, source, destination, k);
     if row.len() == 0 {
         return 0;
     }
     if row[STATE] != HELD { // in conflict: N is 0
         return 0;
     }
-    n_of(row[FORM])
+    let head = keyrow::head_of(row[FORM]);
+    head.n
 }
 
 // Judges a key's map: 11, else 0 with the judgement.
 pub fn judge(t: &[u64; WORDS], source: u8, destination: u8, k: u8) -> Answer
     ensures { λ r. ⌜ inNumbers r ≡ judgedBy widthOf (mapIn (now (t .entry)) (keyOf source destination k)) ⌝ }
 {
-    let row = table::row_of(t, source, destination, k);
-    if row.len() == 0 {
-        return answers::plainly(11);
-    }
     let mut spns = [0u32; POSITIONS];
     let mut starts = [0u32; POSITIONS];
     let mut widths = [0u32; POSITIONS];
-    answers::judgement_is(judge_row(row, &mut spns, &mut starts, &mut widths))
+    let map = open::open(
+        t,
+        source,
+        destination,
+        k,
+        &mut spns,
+        &mut starts,
+        &mut widths,
+    );
+    map.answer
 }
 
 // Packs numbers by a key's map into the first L bytes of `out`: 11, 12, 13, 14, else 0 with L. Every test is made before the first byte is
@@ -276,11 +166,24 @@ pub fn pack(
     ensures { λ r. ⌜ outcome (inNumbers r) (now (out .exit))
         ≡ packedBy widthOf (mapIn (now (t .entry)) (keyOf source destination k)) (now (numbers .entry)) (now (out .entry)) ⌝ }
 {
-    let row = table::row_of(t, source, destination, k);
-    if row.len() == 0 {
-        return answers::plainly(11);
+    let mut spns = [0u32; POSITIONS];
+    let mut starts = [0u32; POSITIONS];
+    let mut widths = [0u32; POSITIONS];
+    let map = open::open(
+        t,
+        source,
+        destination,
+        k,
+        &mut spns,
+        &mut starts,
+        &mut widths,
+    );
+    let answer = ready(map.answer);
+    if answer.number != 0 { // 11 or 12, before 13 and 14
+        return answer;
     }
-    pack_row(row, numbers, out)
+    let n = map.n as usize;
+    told(payload::pack(&starts[..n], &widths[..n], numbers, out))
 }
 
 // Reads a payload by a key's map into the first n places of `room`: 11, 12, 13, else 0 with n. Every test is made before the first number is
@@ -296,20 +199,79 @@ pub fn read(
     ensures { λ r. ⌜ outcome (inNumbers r) (now (room .exit))
         ≡ readBy widthOf (mapIn (now (t .entry)) (keyOf source destination k)) (now (payload .entry)) (now (room .entry)) ⌝ }
 {
-    let row = table::row_of(t, source, destination, k);
-    if row.len() == 0 {
-        return answers::plainly(11);
+    let mut spns = [0u32; POSITIONS];
+    let mut starts = [0u32; POSITIONS];
+    let mut widths = [0u32; POSITIONS];
+    let map = open::open(
+        t,
+        source,
+        destination,
+        k,
+        &mut spns,
+        &mut starts,
+        &mut widths,
+    );
+    let answer = ready(map.answer);
+    if answer.number != 0 { // 11 or 12, before 13
+        return answer;
     }
-    read_row(row, payload, room)
+    let n = map.n as usize;
+    told(payload::read(&starts[..n], &widths[..n], payload, room))
 }
 
 // Finds an SPN in a key's map: 11, 12, 18, else 0 with position, start and width.
 pub fn find(t: &[u64; WORDS], source: u8, destination: u8, k: u8, spn: u32) -> Found
     ensures { λ r. ⌜ foundIn r ≡ foundBy widthOf (mapIn (now (t .entry)) (keyOf source destination k)) spn ⌝ }
 {
-    let row = table::row_of(t, source, destination, k);
-    if row.len() == 0 {
-        return refused(answers::plainly(11));
+    let mut spns = [0u32; POSITIONS];
+    let mut starts = [0u32; POSITIONS];
+    let mut widths = [0u32; POSITIONS];
+    let map = open::open(
+        t,
+        source,
+        destination,
+        k,
+        &mut spns,
+        &mut starts,
+        &mut widths,
+    );
+    let answer = ready(map.answer);
+    if answer.number != 0 { // 11 or 12, before 18
+        return refused(answer);
     }
-    find_row(row, spn)
+    let position = position_in(&spns, map.n, spn);
+    if position == 0 {
+        return refused(answers::plainly(18));
+    }
+    let i = (position - 1) as usize;
+    Found {
+        answer,
+        position,
+        start: starts[i],
+        width: widths[i],
+    }
+}
+
+// The parameter at a position of a key's map, usable or not: 11, 18 where nothing stands there, else 0 with SPN, start and width.
+pub fn parameter_at(t: &[u64; WORDS], source: u8, destination: u8, k: u8, position: u8) -> Parameter
+    ensures { λ r. ⌜ standingIn r ≡ standsBy widthOf (mapIn (now (t .entry)) (keyOf source destination k)) position ⌝ }
+{
+    let row = lookup::row_of(t, source, destination, k);
+    if row.len() == 0 {
+        return absent(answers::plainly(11));
+    }
+    let cell = cell_at(row, position);
+    if cell == 0 {
+        return absent(answers::plainly(18));
+    }
+    let spn = keyrow::spn_of(cell);
+    let start = keyrow::start_of(cell);
+    let width = dictionary::width_of(spn);
+    let answer = answers::plainly(0);
+    Parameter {
+        answer,
+        spn,
+        start,
+        width,
+    }
 }

@@ -1,18 +1,15 @@
 -- What a look-up gives, in any list of rows: the number and the width of the first row that has the SPN, or none and 0 where no row has it.
 -- Assumes nothing.
-use mathlib.Core.Path.{_≡_, refl, ap}
+use mathlib.Core.Path.{_≡_, refl}
 use mathlib.Core.Bool.{Bool, true, false}
 use mathlib.Core.List.{List, [], _∷_}
 use mathlib.Core.Option.{Option, none, some, Option·map, Option·some-injective, Option·none-ne-some, Option·some-ne-none}
 use Prim.Native.Nat.{ℕ, zero, suc, _<_, zero-le, suc-le-suc}
 use native.Mathlib.Nat.{le-of-suc-le-suc, not-suc-le-zero}
-use native.Mathlib.Decide.{decLt}
-use native.Mathlib.Omega.{arith}
 use lib.Dec.{eqb}
-use lib.ListN.{length, getD}
+use lib.ListN.{length}
 use borrow.Author.Tests.{eqb-true, eqb-false}
-use Rattle.rows.specs.declared.Row.{Row}
-use Rattle.rows.specs.Rows.{row, rowIn, rowsOf}
+use Rattle.rowrule.specs.Rows.{Row, rowIn}
 use Rattle.dictionary.specs.Dictionary.{widthIn, numberIn}
 
 -- row k has the SPN
@@ -61,19 +58,3 @@ at-none (nowhere lacks) q = (lacks, refl)
 pub none-found : {rows : List Row} {s w : ℕ} {o : Option ℕ} → Looked rows s o w → Lacks rows s (length rows) → o ≡ none
 none-found (at j l e lacks) no-row = absurd (no-row j l e)
 none-found (nowhere lacks) no-row = refl
-
--- a row that has it, with none before it that has, is the one found
-pub first-found : {rows : List Row} {s w : ℕ} {o : Option ℕ} → Looked rows s o w → (i : ℕ) → i < length rows → Has rows s i → Lacks rows s i → o ≡ some i
-first-found (at j l e lacks) i h has none-before =
-    elim (decLt j i) [
-      | yes p ↦ absurd (none-before j p e)
-      | no p ↦ elim (decLt i j) [ yes q ↦ absurd (lacks i q has) | no q ↦ ap some (let z : j ≡ i = omega arith in z) ]
-    ]
-first-found (nowhere lacks) i h has none-before = absurd (lacks i h has)
-
--- ---- rows that stand as pairs of numbers
-
-pub rows-at : (ps : List (List ℕ)) (i : ℕ) → rowIn (rowsOf ps) i ≡ row (getD (getD ps i []) 0 0) (getD (getD ps i []) 1 0)
-rows-at [] i = refl
-rows-at (p ∷ ps) zero = refl
-rows-at (p ∷ ps) (suc i) = rows-at ps i

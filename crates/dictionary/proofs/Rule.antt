@@ -11,8 +11,7 @@ use native.Mathlib.Decide.{decLt}
 use native.Mathlib.Omega.{arith}
 use lib.Dec.{T, leb, leb→le}
 use lib.ListN.{length}
-use Rattle.rows.specs.declared.Row.{Row}
-use Rattle.rows.specs.Rows.{rowIn, ruled}
+use Rattle.rowrule.specs.Rows.{Row, rowIn, ruled}
 use Rattle.dictionary.specs.Dictionary.{widthIn, numberIn}
 use Rattle.dictionary.proofs.Lookup.{Has, Lacks, Looked, at, nowhere, looked}
 

@@ -1,11 +1,13 @@
 -- The look-ups in 002's rows: the laws of any list of rows, at the table.
 -- Assumes nothing.
-use mathlib.Core.Path.{_≡_, refl, sym, ap}
+use mathlib.Core.Path.{_≡_, refl, sym, ap, _∙_}
+use mathlib.Core.List.{List, []}
 use mathlib.Core.Option.{none, some, Option·some-injective, Option·none-ne-some, Option·some-ne-none}
 use Prim.Native.Nat.{ℕ, _≤_, _<_}
 use native.Mathlib.Omega.{arith}
-use Rattle.rows.specs.Rows.{table, rowCount, rowAt}
-use Rattle.rows.proofs.Table.{size, table-ruled}
+use lib.ListN.{length, getD}
+use Rattle.rowrule.specs.Rows.{table, rowCount, rowAt, pairs}
+use Rattle.rowrule.proofs.Table.{size, table-ruled, pairs-size, pairs-at}
 use Rattle.dictionary.specs.declared.Found.{Found}
 use Rattle.dictionary.specs.declared.Found.the-variants.{At, Nothing}
 use Rattle.dictionary.specs.Dictionary.{widthOf, numberOf, foundRow}
@@ -50,6 +52,14 @@ number-some s i e = let f = at-found (looked table s) (sym e) in (omega (arith, 
 pub number-none : (s : ℕ) → none ≡ numberOf s → Lacks table s rowCount × (widthOf s ≡ 0)
 unfolding numberOf widthOf
 number-none s e = let f = at-none (looked table s) (sym e) in (λ k h. f .0 k (omega (arith, size)), f .1)
+
+-- the rows as they are lent
+module _ (ps : List (List ℕ)) (e : ps ≡ pairs) where
+  pub lent-size : length ps ≡ rowCount
+  lent-size = ap length e ∙ pairs-size
+
+  pub lent-at : (i : ℕ) → (getD (getD ps i []) 0 0 ≡ rowAt i .spn) × (getD (getD ps i []) 1 0 ≡ rowAt i .width)
+  lent-at i = rw e (pairs-at i)
 
 -- two answers that say the same are the same
 pub found-one : (a b : Found) → foundRow a ≡ foundRow b → a ≡ b

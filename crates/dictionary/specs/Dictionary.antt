@@ -1,13 +1,14 @@
 -- The dictionary (01, "A set and its judgement"): what a look-up gives, over any list of rows, and in the rows that 002 gives. Their rule
--- is that of the crate rows.
+-- is that of the crate rowrule.
 -- Assumes nothing.
-use Prim.Native.Nat.{ℕ, suc}
+use Prim.Native.Nat.{ℕ, suc, min}
 use mathlib.Core.Bool.{cond}
-use mathlib.Core.List.{List, [], _∷_}
+use mathlib.Core.List.{List, [], _∷_, _++_}
 use mathlib.Core.Option.{Option, none, some, Option·map}
 use lib.Dec.{eqb}
-use Rattle.rows.specs.declared.Row.{Row}
-use Rattle.rows.specs.Rows.{table}
+use lib.ListN.{length, getD, drop}
+use Rattle.words.specs.Lists.{tabulate}
+use Rattle.rowrule.specs.Rows.{Row, table}
 use Rattle.dictionary.specs.declared.Found.{Found}
 use Rattle.dictionary.specs.declared.Found.the-variants.{At, Nothing}
 
@@ -28,6 +29,15 @@ widthOf s = widthIn table s
 
 unfoldable pub numberOf : ℕ → Option ℕ
 numberOf s = numberIn table s
+
+-- as far as a list of SPNs and the list that their widths are laid over both reach
+abbrev pub reach : List ℕ → List ℕ → ℕ
+reach spns held = min (length spns) (length held)
+
+-- the widths of a list of SPNs, 0 where the dictionary hasn't one, laid over the start of a list as far as both reach; past that it holds what
+-- it held
+unfoldable pub widthsOver : List ℕ → List ℕ → List ℕ
+widthsOver spns held = tabulate (λ i. widthOf (getD spns i 0)) (reach spns held) ++ drop (reach spns held) held
 
 -- what each case of the code's answer says: the number of a row, or none
 unfoldable pub foundRow : Found → Option ℕ

@@ -1,8 +1,9 @@
-// The dictionary: where an SPN stands in it, and how wide its parameter is (01, "A set and its judgement"). Any SPN may be asked. The
-// rows and the test of their rule are the crate rows'; what the rule gives at each row, and the laws of a look-up, stand in proofs/.
+// The dictionary: where an SPN stands in it, and how wide its parameter is (01, "A set and its judgement"). Any SPN may be asked. The rows are the
+// crate rows', the test of their rule is the crate rowrule's; what the rule gives at each row, and the laws of a look-up, stand in proofs/.
+// A public call lays the rows out once; they are lent to the private functions below it, and to nobody else.
 ghost use mathlib.Core.Path.{_≡_};
-ghost use Rattle.dictionary.specs.Dictionary.{foundRow, numberIn, widthIn, numberOf, widthOf};
-ghost use Rattle.rows.specs.Rows.{rowsOf};
+ghost use Rattle.rowrule.specs.Rows.{pairs};
+ghost use Rattle.dictionary.specs.Dictionary.{foundRow, numberOf, widthOf, widthsOver};
 
 // The row that has an SPN, by its number from 0, or that no row has it.
 pub enum Found {
@@ -10,24 +11,26 @@ pub enum Found {
     Nothing,
 }
 
-// Where the SPN stands in rows that are lent. The promise says nothing of the way: here row by row from the start.
-pub fn row_in(rows: &[[u32; 2]], spn: u32) -> Found
-    ensures { λ r. ⌜ foundRow r ≡ numberIn (rowsOf (now (rows .entry))) spn ⌝ }
+// Where the SPN stands in the dictionary, whose rows are lent. The promise says nothing of the way: here row by row from the start.
+fn row_in(rows: &[[u32; 2]], spn: u32) -> Found
+    requires { ⌜ now rows ≡ pairs ⌝ }
+    ensures { λ r. ⌜ foundRow r ≡ numberOf spn ⌝ }
 {
-    let mut i = 0;
-    while i < rows.len() {
-        let row = rows[i];
+    let mut at = 0;
+    while at < rows.len() {
+        let row = rows[at];
         if row[0] == spn {
-            return Found::At(i);
+            return Found::At(at);
         }
-        i += 1;
+        at += 1;
     }
     Found::Nothing
 }
 
-// The width of the SPN's parameter by rows that are lent, and 0 where they haven't it.
-pub fn width_in(rows: &[[u32; 2]], spn: u32) -> u32
-    ensures { λ r. ⌜ r ≡ widthIn (rowsOf (now (rows .entry))) spn ⌝ }
+// The width of the SPN's parameter by the same rows, and 0 where they haven't it.
+fn width_in(rows: &[[u32; 2]], spn: u32) -> u32
+    requires { ⌜ now rows ≡ pairs ⌝ }
+    ensures { λ r. ⌜ r ≡ widthOf spn ⌝ }
 {
     let found = row_in(rows, spn);
     match found {
@@ -53,4 +56,16 @@ pub fn width_of(spn: u32) -> u32
 {
     let rows = rows::all();
     width_in(&rows, spn)
+}
+
+// The widths of many SPNs: that of each is laid over the start of `widths`, as far as both reach.
+pub fn widths_of(spns: &[u32], widths: &mut [u32])
+    ensures { λ _. ⌜ now (widths .exit) ≡ widthsOver (now (spns .entry)) (now (widths .entry)) ⌝ }
+{
+    let rows = rows::all();
+    let mut i = 0;
+    while i < spns.len() && i < widths.len() {
+        widths[i] = width_in(&rows, spns[i]);
+        i += 1;
+    }
 }

@@ -1,15 +1,21 @@
 -- What C gets, in 01's numbers.
 -- Assumes nothing.
+use Prim.Native.Nat.{ℕ}
 use mathlib.Core.Option.{Option, none, some}
 use Rattle.answers.specs.Answers.{Said, saidOf}
 use Rattle.answers.specs.declared.Answer.{Answer}
 use Rattle.message.specs.declared.Key.{Key}
 use Rattle.firmware.specs.declared.Told.{Told}
-use Rattle.ask.specs.Ask.{Finding}
-use Rattle.listing.specs.declared.Tally.{Tally}
+use Rattle.ask.specs.Ask.{Finding, Standing}
+use Rattle.feeding.specs.declared.Tally.{Tally}
 use Rattle.firmware.specs.declared.Held.{Held}
 use Rattle.firmware.specs.declared.Located.{Located}
 use Rattle.firmware.specs.declared.Log.{Log}
+use Rattle.firmware.specs.declared.Placed.{Placed}
+
+-- the version of the exported calls: one more when a caller must be built again or changed
+abbrev pub version : ℕ
+version = 1
 
 -- an answer: its four fields are the four of `Said`
 abbrev pub saidTo : Told → Said
@@ -22,6 +28,10 @@ toldOf a = record { number = a .number; detail = a .detail; judgement = saidOf (
 -- what finding gives
 abbrev pub findingTo : Located → Finding
 findingTo f = record { answer = saidTo (f .told); position = f .position; start = f .start; width = f .width }
+
+-- the parameter at a position
+abbrev pub standingTo : Placed → Standing
+standingTo p = record { answer = saidTo (p .told); spn = p .spn; start = p .start; width = p .width }
 
 -- a held key: 1 and the key, or four times 0
 abbrev pub heldOf : Option Key → Held

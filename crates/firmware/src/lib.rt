@@ -2,24 +2,26 @@
 // room's promise. The length of what is lent stands in the type, so it is C that answers for it; include/yendrolf.h makes it one block.
 ghost use mathlib.Core.Path.{_≡_};
 ghost use Rattle.answers.specs.Answers.{outcome};
-ghost use Rattle.table.specs.Layout.{keyOf, keyNumber};
+ghost use Rattle.keyrow.specs.Row.{keyOf, keyNumber};
 ghost use Rattle.table.specs.Learn.{learnt, emptyTable};
 ghost use Rattle.table.specs.Forget.{forgotten};
-ghost use Rattle.table.specs.Next.{keyFound, firstKey, nextKey};
-ghost use Rattle.table.specs.View.{mapIn};
-ghost use Rattle.maps.specs.Judge.{countOf};
+ghost use Rattle.lookup.specs.Next.{keyFound, firstKey, nextKey};
+ghost use Rattle.lookup.specs.View.{mapIn};
+ghost use Rattle.judge.specs.Judge.{countOf};
 ghost use Rattle.dictionary.specs.Dictionary.{widthOf};
-ghost use Rattle.ask.specs.Ask.{judgedBy, packedBy, readBy, foundIn, foundBy};
-ghost use Rattle.listing.specs.Feed.{started, fed, feeding};
+ghost use Rattle.ask.specs.Ask.{packedBy, readBy, foundIn, foundBy, standingIn, standsBy};
+ghost use Rattle.open.specs.Open.{judgedBy};
+ghost use Rattle.feeding.specs.Feed.{started, fed, feeding};
 ghost use Rattle.listing.specs.Page.{finished};
-ghost use Rattle.ports.specs.declared.Command.the-variants.{Add, Delete, Clear, SetMode};
+ghost use Rattle.pairs.specs.declared.Command.the-variants.{Add, Delete, Clear, SetMode};
 ghost use Rattle.ports.specs.Filters.{commanded, decided, freshWords};
-ghost use Rattle.firmware.specs.Told.{saidTo, toldOf, heldOf, findingTo, tallyIn};
+ghost use Rattle.firmware.specs.Told.{version, saidTo, toldOf, heldOf, findingTo, standingTo, tallyIn};
 use answers::Answer;
 use ask::Found;
-use listing::Counts;
-use listing::Tally;
-use table::Next;
+use ask::Parameter;
+use feeding::Counts;
+use feeding::Tally;
+use lookup::Next;
 
 // An answer in 01's numbers: judgement and position are 0 but for 12 and for 0 of judging, where they are the detail.
 #[repr(C)]
@@ -66,13 +68,36 @@ fn found_in_c(found: Found) -> Located
     }
 }
 
-// A held key, or four times 0.
+// The parameter at a position; all 0 on a refusal, and the width 0 where the dictionary does not have the SPN.
+#[repr(C)]
+pub struct Placed {
+    pub told: Told,
+    pub spn: u32,
+    pub start: u32,
+    pub width: u32,
+}
+
+// The parameter at a position, as C gets it.
+fn placed_in_c(parameter: Parameter) -> Placed
+    ensures { λ r. ⌜ standingTo r ≡ standingIn parameter ⌝ }
+{
+    let answer = parameter.answer;
+    let told = in_c(answer);
+    Placed {
+        told,
+        spn: parameter.spn,
+        start: parameter.start,
+        width: parameter.width,
+    }
+}
+
+// A held key, or four times 0. The fields are what the calls on a key take.
 #[repr(C)]
 pub struct Held {
-    pub held: u32,
-    pub source: u32,
-    pub destination: u32,
-    pub k: u32,
+    pub held: u8,
+    pub source: u8,
+    pub destination: u8,
+    pub k: u8,
 }
 
 // A key as C gets it.
@@ -82,9 +107,9 @@ fn key_in_c(next: Next) -> Held
     match next {
         Next::Found(key) => Held {
             held: 1,
-            source: key.source as u32,
-            destination: key.destination as u32,
-            k: key.k as u32,
+            source: key.source,
+            destination: key.destination,
+            k: key.k,
         },
         Next::NoMore => Held {
             held: 0,
@@ -136,11 +161,19 @@ fn tally_of(log: Log) -> Tally
     }
 }
 
+// The version of these calls, for a caller to hold against that of its header.
+#[no_mangle]
+pub extern "C" fn yendrolf_version() -> u32
+    ensures { λ r. ⌜ r ≡ version ⌝ }
+{
+    1
+}
+
 // ---- the learned table
 
 // Makes an empty table of any words.
 #[no_mangle]
-pub extern "C" fn yendrolf_table_empty(t: &mut [u64; 1072])
+pub extern "C" fn yendrolf_table_empty(t: &mut [u64; lookup::WORDS])
     ensures { λ r. ⌜ now (t .exit) ≡ emptyTable ⌝ }
 {
     table::empty(t)
@@ -148,7 +181,12 @@ pub extern "C" fn yendrolf_table_empty(t: &mut [u64; 1072])
 
 // Learns from one frame. Most frames are of another PGN: those are answered here and go no further.
 #[no_mangle]
-pub extern "C" fn yendrolf_table_learn(t: &mut [u64; 1072], id: u32, len: u8, d: &[u8; 8]) -> Told
+pub extern "C" fn yendrolf_table_learn(
+    t: &mut [u64; lookup::WORDS],
+    id: u32,
+    len: u8,
+    d: &[u8; 8],
+) -> Told
     ensures { λ r. ⌜ outcome (saidTo r) (now (t .exit)) ≡ learnt (now (t .entry)) id len (now (d .entry)) ⌝ }
 {
     if message::frame_fault(id, len, frame::split(id)) == 2 {
@@ -160,7 +198,7 @@ pub extern "C" fn yendrolf_table_learn(t: &mut [u64; 1072], id: u32, len: u8, d:
 // Forgets one key.
 #[no_mangle]
 pub extern "C" fn yendrolf_table_forget(
-    t: &mut [u64; 1072],
+    t: &mut [u64; lookup::WORDS],
     source: u8,
     destination: u8,
     k: u8,
@@ -172,7 +210,12 @@ pub extern "C" fn yendrolf_table_forget(
 
 // The number of parameters of a key's map.
 #[no_mangle]
-pub extern "C" fn yendrolf_table_count(t: &[u64; 1072], source: u8, destination: u8, k: u8) -> u32
+pub extern "C" fn yendrolf_table_count(
+    t: &[u64; lookup::WORDS],
+    source: u8,
+    destination: u8,
+    k: u8,
+) -> u32
     ensures { λ r. ⌜ r ≡ countOf (mapIn (now (t .entry)) (keyOf source destination k)) ⌝ }
 {
     ask::count(t, source, destination, k) as u32
@@ -180,7 +223,12 @@ pub extern "C" fn yendrolf_table_count(t: &[u64; 1072], source: u8, destination:
 
 // Judges a key's map.
 #[no_mangle]
-pub extern "C" fn yendrolf_table_judge(t: &[u64; 1072], source: u8, destination: u8, k: u8) -> Told
+pub extern "C" fn yendrolf_table_judge(
+    t: &[u64; lookup::WORDS],
+    source: u8,
+    destination: u8,
+    k: u8,
+) -> Told
     ensures { λ r. ⌜ saidTo r ≡ judgedBy widthOf (mapIn (now (t .entry)) (keyOf source destination k)) ⌝ }
 {
     in_c(ask::judge(t, source, destination, k))
@@ -189,7 +237,7 @@ pub extern "C" fn yendrolf_table_judge(t: &[u64; 1072], source: u8, destination:
 // Packs numbers by a key's map.
 #[no_mangle]
 pub extern "C" fn yendrolf_table_pack(
-    t: &[u64; 1072],
+    t: &[u64; lookup::WORDS],
     source: u8,
     destination: u8,
     k: u8,
@@ -205,7 +253,7 @@ pub extern "C" fn yendrolf_table_pack(
 // Reads a payload by a key's map.
 #[no_mangle]
 pub extern "C" fn yendrolf_table_read(
-    t: &[u64; 1072],
+    t: &[u64; lookup::WORDS],
     source: u8,
     destination: u8,
     k: u8,
@@ -221,7 +269,7 @@ pub extern "C" fn yendrolf_table_read(
 // Finds an SPN in a key's map.
 #[no_mangle]
 pub extern "C" fn yendrolf_table_find(
-    t: &[u64; 1072],
+    t: &[u64; lookup::WORDS],
     source: u8,
     destination: u8,
     k: u8,
@@ -232,48 +280,62 @@ pub extern "C" fn yendrolf_table_find(
     found_in_c(ask::find(t, source, destination, k, spn))
 }
 
+// The parameter at a position of a key's map, usable or not.
+#[no_mangle]
+pub extern "C" fn yendrolf_table_parameter_at(
+    t: &[u64; lookup::WORDS],
+    source: u8,
+    destination: u8,
+    k: u8,
+    position: u8,
+) -> Placed
+    ensures { λ r. ⌜ standingTo r ≡ standsBy widthOf (mapIn (now (t .entry)) (keyOf source destination k)) position ⌝ }
+{
+    placed_in_c(ask::parameter_at(t, source, destination, k, position))
+}
+
 // The lowest held key.
 #[no_mangle]
-pub extern "C" fn yendrolf_table_first_key(t: &[u64; 1072]) -> Held
+pub extern "C" fn yendrolf_table_first_key(t: &[u64; lookup::WORDS]) -> Held
     ensures { λ r. ⌜ r ≡ heldOf (firstKey (now (t .entry))) ⌝ }
 {
-    key_in_c(table::first_key(t))
+    key_in_c(lookup::first_key(t))
 }
 
 // The lowest held key above the given one.
 #[no_mangle]
 pub extern "C" fn yendrolf_table_next_key(
-    t: &[u64; 1072],
+    t: &[u64; lookup::WORDS],
     source: u8,
     destination: u8,
     k: u8,
 ) -> Held
     ensures { λ r. ⌜ r ≡ heldOf (nextKey (now (t .entry)) (keyOf source destination k)) ⌝ }
 {
-    key_in_c(table::next_key(t, source, destination, k))
+    key_in_c(lookup::next_key(t, source, destination, k))
 }
 
 // ---- the listing of a log
 
 // Nothing read yet.
 #[no_mangle]
-pub extern "C" fn yendrolf_log_start() -> Log
+pub extern "C" fn yendrolf_start_log() -> Log
     ensures { λ r. ⌜ tallyIn r ≡ started ⌝ }
 {
-    log_of(listing::start())
+    log_of(feeding::start())
 }
 
 // Takes the next chunk of a log.
 #[no_mangle]
-pub extern "C" fn yendrolf_table_feed(t: &mut [u64; 1072], log: Log, chunk: &[u8]) -> Log
+pub extern "C" fn yendrolf_table_feed(t: &mut [u64; lookup::WORDS], log: Log, chunk: &[u8]) -> Log
     ensures { λ r. ⌜ fed (now (t .exit)) (tallyIn r) ≡ feeding (now (t .entry)) (tallyIn log) (now (chunk .entry)) ⌝ }
 {
-    log_of(listing::feed(t, tally_of(log), chunk))
+    log_of(feeding::feed(t, tally_of(log), chunk))
 }
 
 // Lays the listing over the start of `text`.
 #[no_mangle]
-pub extern "C" fn yendrolf_table_finish(t: &[u64; 1072], log: Log, text: &mut [u8]) -> Told
+pub extern "C" fn yendrolf_table_finish(t: &[u64; lookup::WORDS], log: Log, text: &mut [u8]) -> Told
     ensures { λ r. ⌜ outcome (saidTo r) (now (text .exit)) ≡ finished (now (t .entry)) (tallyIn log) (now (text .entry)) ⌝ }
 {
     in_c(listing::finish(t, tally_of(log), text))
@@ -283,7 +345,7 @@ pub extern "C" fn yendrolf_table_finish(t: &[u64; 1072], log: Log, text: &mut [u
 
 // Makes all filters fresh.
 #[no_mangle]
-pub extern "C" fn yendrolf_filters_fresh(w: &mut [u32; 408])
+pub extern "C" fn yendrolf_filters_fresh(w: &mut [u32; ports::WORDS])
     ensures { λ r. ⌜ now (w .exit) ≡ freshWords ⌝ }
 {
     ports::fresh(w)
@@ -291,7 +353,12 @@ pub extern "C" fn yendrolf_filters_fresh(w: &mut [u32; 408])
 
 // Adds a PGN to the list of one pair.
 #[no_mangle]
-pub extern "C" fn yendrolf_filters_add(w: &mut [u32; 408], from: u8, to: u8, pgn: u32) -> Told
+pub extern "C" fn yendrolf_filters_add(
+    w: &mut [u32; ports::WORDS],
+    from: u8,
+    to: u8,
+    pgn: u32,
+) -> Told
     ensures { λ r. ⌜ outcome (saidTo r) (now (w .exit)) ≡ commanded (now (w .entry)) from to (Add pgn) ⌝ }
 {
     in_c(ports::add(w, from, to, pgn))
@@ -299,7 +366,12 @@ pub extern "C" fn yendrolf_filters_add(w: &mut [u32; 408], from: u8, to: u8, pgn
 
 // Deletes a PGN from the list of one pair.
 #[no_mangle]
-pub extern "C" fn yendrolf_filters_delete(w: &mut [u32; 408], from: u8, to: u8, pgn: u32) -> Told
+pub extern "C" fn yendrolf_filters_delete(
+    w: &mut [u32; ports::WORDS],
+    from: u8,
+    to: u8,
+    pgn: u32,
+) -> Told
     ensures { λ r. ⌜ outcome (saidTo r) (now (w .exit)) ≡ commanded (now (w .entry)) from to (Delete pgn) ⌝ }
 {
     in_c(ports::delete(w, from, to, pgn))
@@ -307,7 +379,7 @@ pub extern "C" fn yendrolf_filters_delete(w: &mut [u32; 408], from: u8, to: u8, 
 
 // Empties the list of one pair; its mode is kept.
 #[no_mangle]
-pub extern "C" fn yendrolf_filters_clear(w: &mut [u32; 408], from: u8, to: u8) -> Told
+pub extern "C" fn yendrolf_filters_clear(w: &mut [u32; ports::WORDS], from: u8, to: u8) -> Told
     ensures { λ r. ⌜ outcome (saidTo r) (now (w .exit)) ≡ commanded (now (w .entry)) from to Clear ⌝ }
 {
     in_c(ports::clear(w, from, to))
@@ -315,7 +387,12 @@ pub extern "C" fn yendrolf_filters_clear(w: &mut [u32; 408], from: u8, to: u8) -
 
 // Sets the mode of one pair.
 #[no_mangle]
-pub extern "C" fn yendrolf_filters_set_mode(w: &mut [u32; 408], from: u8, to: u8, mode: u8) -> Told
+pub extern "C" fn yendrolf_filters_set_mode(
+    w: &mut [u32; ports::WORDS],
+    from: u8,
+    to: u8,
+    mode: u8,
+) -> Told
     ensures { λ r. ⌜ outcome (saidTo r) (now (w .exit)) ≡ commanded (now (w .entry)) from to (SetMode mode) ⌝ }
 {
     in_c(ports::set_mode(w, from, to, mode))
@@ -323,7 +400,12 @@ pub extern "C" fn yendrolf_filters_set_mode(w: &mut [u32; 408], from: u8, to: u8
 
 // Decides on a frame from one port to another by its identifier.
 #[no_mangle]
-pub extern "C" fn yendrolf_filters_decide(w: &[u32; 408], from: u8, to: u8, id: u32) -> Told
+pub extern "C" fn yendrolf_filters_decide(
+    w: &[u32; ports::WORDS],
+    from: u8,
+    to: u8,
+    id: u32,
+) -> Told
     ensures { λ r. ⌜ saidTo r ≡ decided (now (w .entry)) from to id ⌝ }
 {
     in_c(ports::decide(w, from, to, id))

@@ -1,6 +1,6 @@
 -- A frame's identifier and the three-byte numbers of a frame's data, as 01 ("A frame") has them.
 -- Assumes nothing.
-use Prim.Native.Nat.{ℕ, _+_, _*_, _/_, _%_, _^_}
+use Prim.Native.Nat.{ℕ, _+_, _-_, _*_, _/_, _%_, _^_}
 use mathlib.Core.Bool.{cond}
 use lib.Dec.{ltb}
 use Rattle.frame.specs.declared.Fields.{Fields}
@@ -9,6 +9,10 @@ use Rattle.frame.specs.declared.Three.{Three}
 -- the w bits of n from bit k on
 abbrev pub bits : ℕ → ℕ → ℕ → ℕ
 bits n k w = n / 2 ^ k % 2 ^ w
+
+-- an identifier has 29 bits: answer 1 is given to one "above 2^29 - 1"
+abbrev pub greatestIdentifier : ℕ
+greatestIdentifier = 2 ^ 29 - 1
 
 -- "Of the 29 identifier bits, from the top: priority 3, reserved 1, data page 1, PF 8, PS 8, source 8"
 abbrev pub fieldsOf : ℕ → Fields

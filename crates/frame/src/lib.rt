@@ -3,6 +3,9 @@ ghost use mathlib.Core.Path.{_≡_};
 ghost use mathlib.Core.Bool.{cond};
 ghost use Rattle.frame.specs.Frame.{fieldsOf, pgnOf, destinationOf, threeOf, pgnBytes, spnBytes, spnOf, restOf};
 
+// The greatest identifier of 29 bits (specs: greatestIdentifier).
+pub const GREATEST: u32 = 0x1fff_ffff;
+
 // The six fields of a 29-bit identifier, from the top.
 pub struct Fields {
     pub priority: u8,

@@ -10,17 +10,17 @@ use lib.Dec.{eqb}
 use borrow.Author.Tests.{leb-true, leb-false, le-leb}
 use Rattle.message.specs.declared.Key.{Key}
 use Rattle.message.specs.declared.Message.{Message}
-use Rattle.maps.specs.Maps.{sameKey, conflict, Map, Nothing, Conflict, Held, mapOf, learned}
+use Rattle.maps.specs.Maps.{sameKey, conflict, Map, Nothing, Conflict, Held, mapOf, learned, isNothing, isConflict}
 use Rattle.words.proofs.Tests.{test, never}
 use Rattle.maps.proofs.Tests.{key-eq}
 use Rattle.history.specs.History.{mostKeys, Event, Learn, Forget, names, isEmpty, since, keys, noRoom, answer, kept, setOf, Few}
-use Rattle.history.specs.Table.{Table, isNothing, isConflict, full, number, after}
+use Rattle.history.specs.Table.{Table, full, number, after}
 use Rattle.history.proofs.Follows.{Calls, follows, answers}
 use Rattle.history.proofs.Keys.{has, without-le, without-one, has-keys, keys-once}
 
 -- ---- which events are answered 9
 
-ten-or-zero : (c : Bool) → eqb (cond {A = ℕ} c 10 0) 9 ≡ false
+pub ten-or-zero : (c : Bool) → eqb (cond {A = ℕ} c 10 0) 9 ≡ false
 ten-or-zero true = refl
 ten-or-zero false = refl
 

@@ -7,11 +7,11 @@ use lib.ListN.{length}
 use lib.Dec.{eqb}
 use Rattle.message.specs.declared.Key.{Key}
 use Rattle.message.specs.declared.Message.{Message}
-use Rattle.maps.specs.Maps.{conflict, Nothing, mapOf}
+use Rattle.maps.specs.Maps.{conflict, Nothing, mapOf, isNothing, isConflict}
 use Rattle.words.proofs.Tests.{test}
 use Rattle.maps.proofs.Maps.{map-more}
 use Rattle.history.specs.History.{Event, Learn, Forget, isEmpty, since, keys, noRoom, answer, kept}
-use Rattle.history.specs.Table.{Table, isNothing, isConflict, full, number, after}
+use Rattle.history.specs.Table.{Table, full, number, after}
 use Rattle.history.proofs.Since.{one-event}
 use Rattle.history.proofs.Keys.{has, Once, has-keys, keys-once, same-count}
 

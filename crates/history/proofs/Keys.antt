@@ -2,7 +2,7 @@
 use Prim.Native.Nat.{suc, _≤_}
 use native.Mathlib.Omega.{arith}
 use mathlib.Core.Path.{_≡_, refl, sym, ap, _∙_}
-use mathlib.Core.Bool.{Bool, true, false, _&&_, _||_, not, and-false}
+use mathlib.Core.Bool.{Bool, true, false, _&&_, _||_, not, and-false, or-true}
 use mathlib.Core.List.{List, [], _∷_}
 use lib.ListN.{length}
 use Rattle.words.specs.Runs as runs
@@ -42,7 +42,7 @@ pub without-le : (k : Key) (ks : List Key) → length (without k ks) ≤ length 
 without-le k [] = omega arith
 without-le k (j ∷ ks) = let ih = without-le k ks in test (sameKey k j) (λ t. rw t (omega arith)) (λ f. rw f (omega arith))
 
-once-without : (k : Key) (ks : List Key) → Once ks → Once (without k ks)
+pub once-without : (k : Key) (ks : List Key) → Once ks → Once (without k ks)
 once-without k [] u = tt
 once-without k (j ∷ ks) u =
     test (sameKey k j) (λ t. rw t (once-without k ks (u .1)))
@@ -66,6 +66,18 @@ same-count (k ∷ a) b u v same =
     rest j =
         rw (has-without j k b, ← (same j))
         (test (sameKey k j) (λ t. rw t (rw (← (key-eq k j t)) (u .0))) (λ f. rw f))
+
+-- different keys that all stand in a list are no more than it
+pub sub-count : (a b : List Key) → Once a → Once b → ((k : Key) → has k a ≡ true → has k b ≡ true) → length a ≤ length b
+sub-count [] b u v sub = omega arith
+sub-count (k ∷ a) b u v sub =
+    let q = without-one k b v (sub k (rw (key-refl k))) in
+    omega (arith, q, sub-count a (without k b) (u .1) (once-without k b v) rest)
+  where
+    rest : (j : Key) → has j a ≡ true → has j (without k b) ≡ true
+    rest j t =
+        rw (has-without j k b, sub j (rw t (or-true (sameKey k j))))
+        (test (sameKey k j) (λ s. never t (rw (← (key-eq k j s)) (u .0))) (λ n. rw n))
 
 -- ---- the keys of a history
 

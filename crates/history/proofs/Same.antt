@@ -3,12 +3,12 @@
 -- Assumes nothing.
 use mathlib.Core.Path.{_≡_, sym, ap, _∙_}
 use mathlib.Core.Logic.{⊎-elim}
-use mathlib.Core.List.{List, _∷_, List·Memᴰ, List·Memᴰ·head, List·Memᴰ·tail, List·Memᴰ·cases-cons}
+use mathlib.Core.List.{List, _∷_, List·Memᴰ·head, List·Memᴰ·tail, List·Memᴰ·cases-cons}
+use Rattle.message.specs.declared.Key.{Key}
 use Rattle.message.specs.declared.Message.{Message}
-use Rattle.maps.specs.Maps.{conflict, SameMembers}
+use Rattle.maps.specs.Maps.{conflict, SameMembers, isNothing, isConflict}
 use Rattle.maps.proofs.Maps.{same-map}
 use Rattle.history.specs.History.{Event, Learn, Forget, subject, isEmpty, since, answer, Few}
-use Rattle.history.specs.Table.{isNothing, isConflict}
 use Rattle.history.proofs.Follows.{nothing-is, conflict-is}
 use Rattle.history.proofs.Demand.{room}
 
@@ -26,7 +26,11 @@ same-conflict m s t same =
 pub same-empty : (s t : List Message) → SameMembers s t → isEmpty s ≡ isEmpty t
 same-empty s t same = sym (nothing-is s) ∙ ap isNothing (same-map s t same) ∙ nothing-is t
 
+-- a forget's answer goes by the collection alone
+pub same-forgotten : (h g : List Event) (k : Key) → SameMembers (since h k) (since g k) → answer h (Forget k) ≡ answer g (Forget k)
+same-forgotten h g k same = rw (same-empty (since h k) (since g k) same)
+
 pub same-answer : (h g : List Event) (e : Event) → Few (e ∷ h) → Few (e ∷ g) → SameMembers (since h (subject e)) (since g (subject e)) → answer h e ≡ answer g e
 same-answer h g (Learn m) u v same =
     rw (room h m (u .0), room g m (v .0), same-conflict m (since h (m .key)) (since g (m .key)) same)
-same-answer h g (Forget k) u v same = rw (same-empty (since h k) (since g k) same)
+same-answer h g (Forget k) u v same = same-forgotten h g k same

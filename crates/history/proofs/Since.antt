@@ -27,10 +27,10 @@ since-other e h k f = rw f
 -- ---- the map
 
 -- events without a forget make of nothing the map of their messages
-learns : (l : List Event) → runs.fold step Nothing (runs.since forgets l) ≡ mapOf (messages (runs.since forgets l))
-learns [] = refl
-learns (Learn m ∷ l) = ap (λ (M : Map). learned M m) (learns l) ∙ sym (map-more m (messages (runs.since forgets l)))
-learns (Forget k ∷ l) = refl
+learned-all : (l : List Event) → runs.fold step Nothing (runs.since forgets l) ≡ mapOf (messages (runs.since forgets l))
+learned-all [] = refl
+learned-all (Learn m ∷ l) = ap (λ (M : Map). learned M m) (learned-all l) ∙ sym (map-more m (messages (runs.since forgets l)))
+learned-all (Forget k ∷ l) = refl
 
 again : (M : Map) (e : Event) → forgets e ≡ true → step M e ≡ Nothing
 again M (Learn m) t = never t refl
@@ -38,7 +38,7 @@ again M (Forget k) t = refl
 
 -- a key's own events, one after another, make the map of its collection
 pub own-steps : (h : List Event) (k : Key) → runs.fold step Nothing (runs.only (names k) h) ≡ mapOf (since h k)
-own-steps h k = fold-since step Nothing forgets again (runs.only (names k) h) ∙ learns (runs.only (names k) h)
+own-steps h k = fold-since step Nothing forgets again (runs.only (names k) h) ∙ learned-all (runs.only (names k) h)
 
 -- so one event more is one step for the key that it names, and none for any other
 pub one-event : (e : Event) (h : List Event) (k : Key) → mapOf (since (e ∷ h) k) ≡ cond (names k e) (step (mapOf (since h k)) e) (mapOf (since h k))

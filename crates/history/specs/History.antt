@@ -2,6 +2,7 @@
 -- A history is a list of events, the latest first. Nothing here knows how a table lies in memory.
 -- Assumes nothing.
 use Prim.Native.Nat.{ℕ, _≤_}
+use mathlib.Core.Path.{_≡_}
 use mathlib.Core.Bool.{Bool, true, false, cond, not, _&&_}
 use mathlib.Core.List.{List, [], _∷_}
 use lib.ListN.{length}
@@ -31,6 +32,11 @@ names k e = sameKey (subject e) k
 abbrev pub forgets : Event → Bool
 forgets (Learn m) = false
 forgets (Forget k) = true
+
+-- no event of the list names the key
+abbrev pub Silent : Key → List Event → Type 0
+Silent k [] = Unit {0}
+Silent k (e ∷ h) = (names k e ≡ false) × Silent k h
 
 -- the messages among the events
 abbrev pub messages : List Event → List Message

@@ -1,26 +1,16 @@
 -- What a table holds of each key, and what an event makes of it, however the table lies in memory.
 -- Assumes nothing.
 use Prim.Native.Nat.{ℕ}
-use mathlib.Core.Bool.{Bool, true, false, cond, not, _&&_}
+use mathlib.Core.Bool.{Bool, cond, not, _&&_}
 use lib.Dec.{eqb, leb}
 use Rattle.message.specs.declared.Key.{Key}
-use Rattle.maps.specs.Maps.{Map, Nothing, Conflict, Held, learned}
+use Rattle.maps.specs.Maps.{Map, Nothing, isNothing, isConflict, learned}
 use Rattle.history.specs.History.{mostKeys, Event, Learn, Forget, names}
 
 -- of each key what is held, and how many keys are
 pub record Table : Type 0 where
   pub look : Key → Map
   pub count : ℕ
-
-abbrev pub isNothing : Map → Bool
-isNothing Nothing = true
-isNothing Conflict = false
-isNothing (Held h at) = false
-
-abbrev pub isConflict : Map → Bool
-isConflict Nothing = false
-isConflict Conflict = true
-isConflict (Held h at) = false
 
 -- the key is new and 16 are held
 unfoldable pub full : Table → Key → Bool

@@ -2,19 +2,20 @@
 use Prim.Native.Nat.{ℕ}
 use mathlib.Core.Path.{_≡_, refl}
 use mathlib.Core.List.{List, [], _∷_, flatten, flatMap}
-use Rattle.text.specs.Text.{decimalOf, decimalTo}
+use Rattle.text.specs.Text.{spelt, decimalOf, decimalTo}
 use Rattle.dictionary.specs.Dictionary.{widthOf, widthIn}
-use Rattle.rows.specs.Rows.{table}
+use Rattle.rowrule.specs.Rows.{table}
 use Rattle.message.specs.Message.{heard}
-use Rattle.payload.specs.Bits.{any, lowest, meet, tabulate}
-use Rattle.payload.specs.Place.{place, endOf, sharesBit, endTo, bytesFor, sizeOf}
+use Rattle.places.specs.Place.{meet, place, endOf, sharesBit, endTo, bytesFor, sizeOf}
+use Rattle.words.specs.Lists.{tabulate}
+use Rattle.words.specs.First.{first, any, lowest}
 use Rattle.maps.specs.Maps.{sameKey, sameHead, samePlace, contradicts, conflict}
-use Rattle.maps.specs.Judge.{notAbove, firstNamed, judgeOver}
+use Rattle.judge.specs.Judge.{notAbove, firstNamed, judgeOver}
 use Rattle.history.specs.History.{noRoom}
 use Rattle.record.specs.Record.{recordIn}
 use Rattle.record.specs.Cut.{wholeIn, recordAt, leftOf, overTo, over}
-use Rattle.listing.specs.Lines.{spelt, keyLine, lastLine, listingWith}
-use Rattle.listing.specs.Listing.{tell, storyOf, rising, listingOf}
+use Rattle.listing.specs.Lines.{keyLine, lastLine, listingWith}
+use Rattle.listing.specs.Listing.{tell, storyOf, sorted, listingOf}
 
 -- "For two records that teach case A"
 abbrev pub caseA : List ℕ
@@ -23,9 +24,9 @@ caseA =
     ∷ 38 ∷ 39 ∷ 176 ∷ 24 ∷ 8 ∷ 0 ∷ 177 ∷ 0 ∷ 239 ∷ 5 ∷ 2 ∷ 130 ∷ 9 ∷ []
 
 pub empty-log : listingOf [] ≡ spelt "SRC DST MSG N JUDGED AT\nRECORDS 0 REFUSED 0 OTHER 0 LEFT 0\n"
-unfolding listingOf storyOf over overTo wholeIn leftOf listingWith lastLine rising flatten flatMap decimalOf decimalTo
+unfolding listingOf storyOf over overTo wholeIn leftOf listingWith lastLine sorted flatten flatMap decimalOf decimalTo
 empty-log = refl
 
 pub two-records : listingOf caseA ≡ spelt "SRC DST MSG N JUDGED AT\n38 39 1 2 0 0\nRECORDS 2 REFUSED 0 OTHER 0 LEFT 0\n"
-unfolding listingOf storyOf over overTo wholeIn leftOf recordAt recordIn tell heard listingWith keyLine lastLine rising flatten flatMap decimalOf decimalTo sameKey sameHead samePlace contradicts conflict noRoom widthOf widthIn notAbove firstNamed judgeOver lowest table any sharesBit meet place endOf sizeOf bytesFor endTo tabulate
+unfolding listingOf storyOf over overTo wholeIn leftOf recordAt recordIn tell heard listingWith keyLine lastLine sorted flatten flatMap decimalOf decimalTo sameKey sameHead samePlace contradicts conflict noRoom widthOf widthIn notAbove firstNamed judgeOver lowest table first any sharesBit meet place endOf sizeOf bytesFor endTo tabulate
 two-records = refl

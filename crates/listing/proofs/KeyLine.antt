@@ -3,14 +3,13 @@ use Prim.Native.Nat.{ℕ}
 use mathlib.Core.Path.{_≡_, refl, ap, _∙_}
 use Rattle.answers.specs.declared.Answer.{Answer}
 use Rattle.answers.specs.Answers.{at, saidOf, Said, inNumbers}
-use Rattle.text.specs.Text.{Page}
+use Rattle.text.specs.Text.{Page, putAll}
 use Rattle.dictionary.specs.Dictionary.{widthOf}
 use Rattle.message.specs.declared.Key.{Key}
 use Rattle.maps.specs.Maps.{Map, Nothing, Conflict, Held}
-use Rattle.maps.specs.Judge.{countOf, judge}
-use Rattle.ask.specs.Ask.{judgedBy}
+use Rattle.judge.specs.Judge.{countOf, judge}
+use Rattle.open.specs.Open.{judgedBy}
 use Rattle.listing.specs.Lines.{lineOf, keyLine}
-use Rattle.listing.specs.Page.{laidAll}
 
 -- the judgement of a map, whatever the number of the answer that brings it
 judged-is : (m : Map) → (judgedBy widthOf m .judgement ≡ judge widthOf m .number) × (judgedBy widthOf m .position ≡ judge widthOf m .position)
@@ -29,5 +28,5 @@ line-is k m n j p a e f g h =
 
 -- the same of a page that it is laid into
 pub line-laid : (x r : Page) (k : Key) (m : Map) (n j p : ℕ) (a : Answer) → n ≡ countOf m → inNumbers a ≡ judgedBy widthOf m → j ≡ saidOf (a .judgement) .number
-    → p ≡ saidOf (a .judgement) .position → r ≡ laidAll x (lineOf k n (at j p)) → r ≡ laidAll x (keyLine k m)
-line-laid x r k m n j p a e f g h q = q ∙ ap (laidAll x) (line-is k m n j p a e f g h)
+    → p ≡ saidOf (a .judgement) .position → r ≡ putAll x (lineOf k n (at j p)) → r ≡ putAll x (keyLine k m)
+line-laid x r k m n j p a e f g h q = q ∙ ap (putAll x) (line-is k m n j p a e f g h)

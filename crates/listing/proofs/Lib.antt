@@ -1,9 +1,6 @@
-pub mod Records
-pub mod Chunks
 pub mod Pieces
 pub mod KeyLine
 pub mod Sorted
-pub mod Feeding
 pub mod Widths
 pub mod Told
 pub mod Finished

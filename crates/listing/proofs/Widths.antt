@@ -1,62 +1,36 @@
 -- How long the lines are at most: 512 bytes always hold a listing. On any words and any tally. Assumes nothing.
-use Prim.Native.Nat.{ℕ, zero, suc, _+_, _*_, _/_, _%_, _^_, _≤_, _<_}
+use Prim.Native.Nat.{ℕ, zero, suc, _+_, _*_, _≤_, _<_}
 use native.Mathlib.Omega.{arith}
 use native.Mathlib.Decide.{decLt}
-use native.Mathlib.Nat.{pow-suc}
-use mathlib.Core.Path.{_≡_, _∙_}
 use mathlib.Core.Logic.{inl, inr}
 use mathlib.Core.Option.{none, some}
-use mathlib.Core.List.{List, [], _∷_, _++_, flatten, flatMap}
-use borrow.Author.Tests.{ltb-true, lt-ltb, le-ltb}
+use mathlib.Core.List.{List, flatten, flatMap}
+use borrow.Author.Tests.{lt-ltb, le-ltb}
 use lib.Dec.{ltb, eqb}
 use lib.ListN.{length, length-append}
 use Rattle.answers.specs.Answers.{Judged}
-use Rattle.text.specs.Text.{decimalTo, decimalOf}
+use Rattle.text.proofs.Lengths.{byte-digits, any-digits}
+use Rattle.text.proofs.Pieces.{flat-length}
 use Rattle.dictionary.specs.Dictionary.{widthOf}
 use Rattle.message.specs.declared.Key.{Key}
 use Rattle.maps.specs.Maps.{Map, Nothing, Conflict, Held}
-use Rattle.maps.specs.Judge.{countOf, judge, measured, judgeOver}
+use Rattle.judge.specs.Judge.{countOf, judge, measured, judgeOver}
 use Rattle.words.proofs.Tests.{test}
-use Rattle.maps.proofs.Rules.{Named}
-use Rattle.maps.proofs.Judged.{judged-named}
+use Rattle.judge.proofs.Rules.{Named}
+use Rattle.judge.proofs.Judged.{judged-named}
+use Rattle.record.specs.Chunk.{leftIn}
+use Rattle.record.proofs.Chunks.{left-few}
 use Rattle.history.specs.History.{mostKeys}
-use Rattle.table.specs.Layout.{keyNumber, keyNumbers, keyNamed, stateWord, rowOf, slotOf}
-use Rattle.table.specs.View.{rowMap, mapIn}
-use Rattle.table.specs.Next.{lowestFrom, keyAt, nextKey, walk, heldKeys}
-use Rattle.table.specs.Calls.{InBytes}
-use Rattle.table.proofs.KeyNumbers.{named-bytes}
-use Rattle.listing.specs.declared.Counts.{Counts}
-use Rattle.listing.specs.declared.Tally.{Tally}
+use Rattle.keyrow.specs.Row.{keyNumber, keyNumbers, keyNamed, stateWord, InBytes}
+use Rattle.lookup.specs.Layout.{rowOf, slotOf}
+use Rattle.keyrow.specs.View.{rowMap}
+use Rattle.lookup.specs.View.{mapIn}
+use Rattle.lookup.specs.Next.{lowestFrom, keyAt, nextKey, walk, heldKeys}
+use Rattle.feeding.specs.declared.Counts.{Counts}
+use Rattle.feeding.specs.declared.Tally.{Tally}
 use Rattle.listing.specs.Lines.{lineOf, keyLine, lastLine, listingWith}
-use Rattle.listing.specs.Feed.{leftIn}
 use Rattle.listing.specs.Page.{pageOf}
-
--- ---- numbers
-
--- a number below 10 ^ d has at most d digits
-digits : (most n d : ℕ) → n < 10 ^ suc d → length (decimalTo most n) ≤ suc d
-unfolding decimalTo
-digits zero n d h = omega arith
-digits (suc most) n zero h = rw (lt-ltb n 10 (omega arith)) (omega arith)
-digits (suc most) n (suc d) h =
-    let ih = digits most (n / 10) d (omega (arith, pow-suc 10 (suc d))) in
-    test (ltb n 10) (λ t. rw t (omega arith)) (λ f. rw (f, length-append (decimalTo most (n / 10)) ((48 + n % 10) ∷ [])) (omega arith))
-
-most-digits : (most n : ℕ) → length (decimalTo most n) ≤ most
-unfolding decimalTo
-most-digits zero n = omega arith
-most-digits (suc most) n =
-    let ih = most-digits most (n / 10) in
-    test (ltb n 10) (λ t. rw t (omega arith)) (λ f. rw (f, length-append (decimalTo most (n / 10)) ((48 + n % 10) ∷ [])) (omega arith))
-
--- a byte has three, any count twenty
-byte : (n : ℕ) → n < 256 → length (decimalOf n) ≤ 3
-unfolding decimalOf
-byte n h = digits 20 n 2 (omega arith)
-
-count : (n : ℕ) → length (decimalOf n) ≤ 20
-unfolding decimalOf
-count n = most-digits 20 n
+use Rattle.learned.proofs.KeyNumbers.{named-bytes}
 
 -- ---- what is known of a key, in bytes
 
@@ -88,7 +62,7 @@ count-byte t k =
 line : (k : Key) (n : ℕ) (j : Judged) → InBytes k → n < 256 → j .number < 256 → j .position < 256 → length (flatten (lineOf k n j)) ≤ 24
 unfolding flatten
 line k n j b h p q =
-    simp length-append (omega (arith, byte (k .source) (b .source), byte (k .destination) (b .destination), byte (k .k) (b .number), byte n h, byte (j .number) p, byte (j .position) q))
+    simp length-append (omega (arith, byte-digits (k .source) (b .source), byte-digits (k .destination) (b .destination), byte-digits (k .k) (b .number), byte-digits n h, byte-digits (j .number) p, byte-digits (j .position) q))
 
 key-line : (t : List ℕ) (k : Key) → InBytes k → length (flatten (keyLine k (mapIn t k))) ≤ 24
 unfolding keyLine
@@ -99,12 +73,7 @@ key-line t k b =
 
 last : (c : Counts) (left : ℕ) → left < 256 → length (flatten (lastLine c left)) ≤ 94
 unfolding flatten lastLine
-last c left h = simp length-append (omega (arith, count (c .records), count (c .refused), count (c .other), byte left h))
-
-flatten-more : (a b : List (List ℕ)) → length (flatten (a ++ b)) ≡ length (flatten a) + length (flatten b)
-unfolding flatten
-flatten-more [] b = omega arith
-flatten-more (x ∷ a) b = length-append x (flatten (a ++ b)) ∙ rw (flatten-more a b, length-append x (flatten a)) (omega arith)
+last c left h = simp length-append (omega (arith, any-digits (c .records), any-digits (c .refused), any-digits (c .other), byte-digits left h))
 
 abbrev lines : List ℕ → List Key → List (List ℕ)
 lines t ks = flatMap (λ k. keyLine k (mapIn t k)) ks
@@ -117,7 +86,7 @@ walked (suc n) t x = go (decLt x keyNumbers) (walked n t (lowestFrom t (keyNumbe
     go : Dec (x < keyNumbers) → length (flatten (lines t (walk n t (nextKey t (keyNamed x))))) ≤ 24 * n → length (flatten (lines t (walk (suc n) t (keyAt x)))) ≤ 24 * suc n
     go (no h) ih = rw (le-ltb x keyNumbers (omega arith)) (omega arith)
     go (yes h) ih =
-        rw (lt-ltb x keyNumbers h, flatten-more (keyLine (keyNamed x) (mapIn t (keyNamed x))) (lines t (walk n t (nextKey t (keyNamed x)))))
+        rw (lt-ltb x keyNumbers h, flat-length (keyLine (keyNamed x) (mapIn t (keyNamed x))) (lines t (walk n t (nextKey t (keyNamed x)))))
         (omega (arith, key-line t (keyNamed x) (named-bytes x h)))
 
 -- ---- the whole listing
@@ -125,5 +94,4 @@ walked (suc n) t x = go (decLt x keyNumbers) (walked n t (lowestFrom t (keyNumbe
 pub enough : (t : List ℕ) (s : Tally) → length (pageOf t s) ≤ 512
 unfolding listingWith flatten
 enough t s =
-    let left : leftIn (s .left) < 256 = test (ltb (s .left) 13) (λ h. rw h (omega (arith, ltb-true (s .left) 13 h))) (λ f. rw f (omega arith)) in
-    omega (arith, flatten-more (lines t (heldKeys t)) (lastLine (s .counts) (leftIn (s .left))), walked mostKeys t (lowestFrom t 0), last (s .counts) (leftIn (s .left)) left)
+    omega (arith, flat-length (lines t (heldKeys t)) (lastLine (s .counts) (leftIn (s .left))), walked mostKeys t (lowestFrom t 0), last (s .counts) (leftIn (s .left)) (omega (arith, left-few (s .left))))

@@ -1,4 +1,3 @@
 pub mod Lines
-pub mod Feed
 pub mod Page
 pub mod Listing

@@ -12,9 +12,10 @@ use Rattle.maps.specs.Maps.{Map, mapOf}
 use Rattle.history.specs.History.{Event, keys, kept, setOf}
 use Rattle.record.specs.Record.{recordIn}
 use Rattle.record.specs.Cut.{wholeIn, leftOf, over}
-use Rattle.table.specs.Calls.{learns, heardAnswer}
-use Rattle.listing.specs.declared.Counts.{Counts}
-use Rattle.listing.specs.Lines.{isOther, isRefused, wrapped, listingWith}
+use Rattle.history.specs.Frames.{learns, heardAnswer}
+use Rattle.feeding.specs.declared.Counts.{Counts}
+use Rattle.feeding.specs.Counts.{isOther, isRefused, wrapped}
+use Rattle.listing.specs.Lines.{listingWith}
 
 -- ---- what a log tells
 
@@ -50,9 +51,10 @@ abbrev pub insert : Key → List Key → List Key
 insert k [] = k ∷ []
 insert k (j ∷ ks) = cond (below k j) (k ∷ (j ∷ ks)) (j ∷ insert k ks)
 
-unfoldable pub rising : List Key → List Key
-rising [] = []
-rising (k ∷ ks) = insert k (rising ks)
+-- keys in rising order
+unfoldable pub sorted : List Key → List Key
+sorted [] = []
+sorted (k ∷ ks) = insert k (sorted ks)
 
 -- ---- the listing
 
@@ -70,7 +72,7 @@ countsOf whole answers = record {
 
 -- what a story says of a log of so many whole records with so many bytes left: "Keys are listed rising"
 abbrev pub listingBy : Story → ℕ → ℕ → List ℕ
-listingBy s whole left = flatten (listingWith (known (s .events)) (rising (keys (kept (s .events)))) (countsOf whole (s .answers)) left)
+listingBy s whole left = flatten (listingWith (known (s .events)) (sorted (keys (kept (s .events)))) (countsOf whole (s .answers)) left)
 
 -- "LEFT the bytes of a cut last record"
 unfoldable pub listingOf : List ℕ → List ℕ

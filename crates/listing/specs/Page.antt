@@ -2,16 +2,15 @@
 -- Assumes nothing.
 use Prim.Native.Nat.{ℕ}
 use mathlib.Core.Bool.{cond}
-use mathlib.Core.List.{List, [], _∷_, flatten}
+use mathlib.Core.List.{List, flatten}
 use lib.ListN.{length}
 use Rattle.answers.specs.Answers.{Outcome, outcome, plain, done}
 use Rattle.splice.specs.Splice.{fits, splice}
-use Rattle.text.specs.Text.{Page, put}
-use Rattle.table.specs.View.{mapIn}
-use Rattle.table.specs.Next.{heldKeys}
-use Rattle.listing.specs.declared.Tally.{Tally}
+use Rattle.record.specs.Chunk.{leftIn}
+use Rattle.lookup.specs.View.{mapIn}
+use Rattle.lookup.specs.Next.{heldKeys}
+use Rattle.feeding.specs.declared.Tally.{Tally}
 use Rattle.listing.specs.Lines.{listingWith}
-use Rattle.listing.specs.Feed.{leftIn}
 
 -- the listing, in pieces
 abbrev pub piecesOf : List ℕ → Tally → List (List ℕ)
@@ -23,10 +22,3 @@ pageOf t s = flatten (piecesOf t s)
 -- the listing laid into a buffer: 0 with its length; or 13, and nothing written, where the buffer is too short
 unfoldable pub finished : List ℕ → Tally → List ℕ → Outcome
 finished t s out = cond (fits out 0 (pageOf t s)) (outcome (done (length (pageOf t s))) (splice out 0 (pageOf t s))) (outcome (plain 13) out)
-
--- ---- only the promises of private functions cite this
-
--- pieces laid one after another
-unfoldable pub laidAll : Page → List (List ℕ) → Page
-laidAll p [] = p
-laidAll p (x ∷ xs) = laidAll (put (p .bytes) (p .at) x) xs

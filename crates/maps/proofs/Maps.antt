@@ -2,7 +2,7 @@
 -- Assumes nothing.
 use Prim.Native.Nat.{ℕ}
 use mathlib.Core.Path.{_≡_, refl, sym, ap, _∙_, fun-ext}
-use mathlib.Core.Logic.{⊎-elim}
+use mathlib.Core.Logic.{_⊎_, inl, inr, ⊎-elim}
 use mathlib.Core.Bool.{Bool, true, false, _||_, and-eq-true-iff}
 use mathlib.Core.Option.{Option, none, some, Option·none-ne-some, Option·some-injective}
 use mathlib.Core.List.{List, [], _∷_, List·Memᴰ, List·Memᴰ·head, List·Memᴰ·tail, List·Memᴰ·not-nil, List·Memᴰ·cases-cons}
@@ -11,7 +11,7 @@ use lib.Dec.{eqb}
 use Rattle.message.specs.declared.Head.{Head}
 use Rattle.message.specs.declared.Place.{Place}
 use Rattle.message.specs.declared.Message.{Message}
-use Rattle.maps.specs.Maps.{sameHead, samePlace, contradicts, someOf, conflict, placeAt, Map, Nothing, Conflict, Held, mapOf, Contradiction, Says, IsMap, agrees, put, fits, learned, SameMembers}
+use Rattle.maps.specs.Maps.{sameHead, samePlace, contradicts, someOf, conflict, placeAt, Map, Nothing, Conflict, Held, mapOf, Contradiction, Says, IsMap, agrees, placesWith, agreesWith, learned, SameMembers}
 use Rattle.words.proofs.Tests.{test, never}
 use Rattle.maps.proofs.Tests.{and-false-cases, eqb-same, head-eq, place-eq, clash-head, clash-place, agree, no-clash}
 
@@ -110,7 +110,7 @@ same-map s t same = unique s t same (mapOf s) (mapOf t) (is-map s) (is-map t)
 grow : (s : List Message) (m : Message) (h : Head) (at : ℕ → Option Place) → m .head ≡ h
     → ((x : Message) → List·Memᴰ x s → (x .head ≡ h) × (at (x .position) ≡ some (x .place)) × (m .position ≡ x .position → m .place ≡ x .place))
     → ((p : ℕ) (x : Place) → at p ≡ some x → (y : Message) × List·Memᴰ y s × (y .position ≡ p) × (y .place ≡ x))
-    → Says (m ∷ s) h (put at m)
+    → Says (m ∷ s) h (placesWith at m)
 grow s m h at q old only = record {
   first = m;
   first-in = List·Memᴰ·head refl;
@@ -121,7 +121,7 @@ grow s m h at q old only = record {
       (λ f. let (y, j, r, v) = only p x (rw f at e) in (y, List·Memᴰ·tail j, r, v));
 }
   where
-    place : (x : Message) → List·Memᴰ x s → put at m (x .position) ≡ some (x .place)
+    place : (x : Message) → List·Memᴰ x s → placesWith at m (x .position) ≡ some (x .place)
     place x j = test (eqb (m .position) (x .position)) (λ t. rw t (ap some (old x j .2 (eqb-true _ _ t)))) (λ f. rw f (old x j .1))
 
 agrees-eq : (o : Option Place) (x y : Place) → agrees o x ≡ true → o ≡ some y → x ≡ y
@@ -133,19 +133,19 @@ agrees-no none x e = never refl e
 agrees-no (some z) x e = (z, refl, e)
 
 one-more : (s : List Message) (m : Message) (M : Map) → IsMap s M → IsMap (m ∷ s) (learned M m)
-unfolding fits
+unfolding agreesWith
 one-more s m Nothing u = grow s m (m .head) (λ p. none) refl (λ x i. absurd (u x i)) (λ p x e. absurd (Option·none-ne-some x e))
 one-more s m Conflict u = record { one = u .one; other = u .other; one-in = List·Memᴰ·tail (u .one-in); other-in = List·Memᴰ·tail (u .other-in); they = u .they }
-one-more s m (Held h at) u = test (fits h at m) (λ t. rw t (fit t)) (λ f. rw f (unfit f))
+one-more s m (Held h at) u = test (agreesWith h at m) (λ t. rw t (fit t)) (λ f. rw f (unfit f))
   where
-    fit : fits h at m ≡ true → Says (m ∷ s) h (put at m)
+    fit : agreesWith h at m ≡ true → Says (m ∷ s) h (placesWith at m)
     fit t =
         let (a, b) = and-eq-true-iff (sameHead h (m .head)) _ .0 t in
         grow s m h at (sym (head-eq h (m .head) a))
         (λ x i. (u .head-is x i, u .place-is x i, λ q. agrees-eq (at (m .position)) (m .place) (x .place) b (ap at q ∙ u .place-is x i)))
         (u .only)
 
-    unfit : fits h at m ≡ false → Contradiction (m ∷ s)
+    unfit : agreesWith h at m ≡ false → Contradiction (m ∷ s)
     unfit f =
         ⊎-elim
         (λ a. record {
@@ -163,3 +163,20 @@ one-more s m (Held h at) u = test (fits h at m) (λ t. rw t (fit t)) (λ f. rw f
 -- what a program does with one more message is what the larger set says
 pub map-more : (m : Message) (s : List Message) → mapOf (m ∷ s) ≡ learned (mapOf s) m
 map-more m s = unique (m ∷ s) (m ∷ s) (λ x. (λ i. i, λ i. i)) (mapOf (m ∷ s)) (learned (mapOf s) m) (is-map (m ∷ s)) (one-more s m (mapOf s) (is-map s))
+
+-- ---- a held map and one message more
+
+module _ (h : Head) (at : ℕ → Option Place) (m : Message) where
+  -- it has the same head, and the message's place with those that stood there; or it is in conflict
+  pub held-more : (learned (Held h at) m ≡ Held h (placesWith at m)) ⊎ (learned (Held h at) m ≡ Conflict)
+  held-more = test (agreesWith h at m) (λ t. inl (rw t)) (λ f. inr (rw f))
+
+  -- where something stands at the message's position already, it is the same map, or in conflict
+  pub held-same : (x : Place) → at (m .position) ≡ some x → (learned (Held h at) m ≡ Held h at) ⊎ (learned (Held h at) m ≡ Conflict)
+  unfolding agreesWith
+  held-same x e = test (agreesWith h at m) (λ t. inl (rw t (ap (Held h) (fun-ext (there t))))) (λ f. inr (rw f))
+    where
+      there : agreesWith h at m ≡ true → (p : ℕ) → placesWith at m p ≡ at p
+      there t p =
+          let same = agrees-eq (at (m .position)) (m .place) x (and-eq-true-iff (sameHead h (m .head)) _ .0 t .1) e in
+          test (eqb (m .position) p) (λ q. rw (q, ← (eqb-true (m .position) p q), e, same)) (λ n. rw n)

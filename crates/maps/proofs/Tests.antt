@@ -26,38 +26,44 @@ beq-refl : (a : Bool) → Bool·beq a a ≡ true
 beq-refl true = refl
 beq-refl false = refl
 
+-- three tests that all hold
+all-three : (a b c : Bool) → (a && (b && c)) ≡ true → (a ≡ true) × (b ≡ true) × (c ≡ true)
+all-three a b c e =
+    let (p, r) = and-eq-true-iff a (b && c) .0 e in
+    let (q, s) = and-eq-true-iff b c .0 r in
+    (p, q, s)
+
 pub eqb-same : (n : ℕ) → eqb n n ≡ true
 eqb-same n = eq-eqb n n refl
 
--- ---- equal by the test, equal; and the other way
+-- ---- equal by the test, equal
 
 pub key-eq : (a b : Key) → sameKey a b ≡ true → a ≡ b
 unfolding sameKey
 key-eq a b e =
-    let (s, r) = and-eq-true-iff (eqb (a .source) (b .source)) _ .0 e in
-    let (d, k) = and-eq-true-iff (eqb (a .destination) (b .destination)) _ .0 r in
+    let (s, d, k) = all-three (eqb (a .source) (b .source)) (eqb (a .destination) (b .destination)) (eqb (a .k) (b .k)) e in
     λ i. record { source = eqb-true (a .source) (b .source) s i; destination = eqb-true (a .destination) (b .destination) d i; k = eqb-true (a .k) (b .k) k i }
-
-pub key-refl : (a : Key) → sameKey a a ≡ true
-unfolding sameKey
-key-refl a = rw (eqb-same (a .source), eqb-same (a .destination), eqb-same (a .k))
 
 pub head-eq : (a b : Head) → sameHead a b ≡ true → a ≡ b
 unfolding sameHead
 head-eq a b e =
-    let (n, r) = and-eq-true-iff (eqb (a .n) (b .n)) _ .0 e in
-    let (p, t) = and-eq-true-iff (Bool·beq (a .proprietary) (b .proprietary)) _ .0 r in
+    let (n, p, t) = all-three (eqb (a .n) (b .n)) (Bool·beq (a .proprietary) (b .proprietary)) (Bool·beq (a .transport) (b .transport)) e in
     λ i. record { n = eqb-true (a .n) (b .n) n i; proprietary = beq-true (a .proprietary) (b .proprietary) p i; transport = beq-true (a .transport) (b .transport) t i }
-
-pub head-refl : (a : Head) → sameHead a a ≡ true
-unfolding sameHead
-head-refl a = rw (eqb-same (a .n), beq-refl (a .proprietary), beq-refl (a .transport))
 
 pub place-eq : (a b : Place) → samePlace a b ≡ true → a ≡ b
 unfolding samePlace
 place-eq a b e =
     let (s, t) = and-eq-true-iff (eqb (a .spn) (b .spn)) _ .0 e in
     λ i. record { spn = eqb-true (a .spn) (b .spn) s i; start = eqb-true (a .start) (b .start) t i }
+
+-- and the other way
+pub key-refl : (a : Key) → sameKey a a ≡ true
+unfolding sameKey
+key-refl a = rw (eqb-same (a .source), eqb-same (a .destination), eqb-same (a .k))
+
+pub head-refl : (a : Head) → sameHead a a ≡ true
+unfolding sameHead
+head-refl a = rw (eqb-same (a .n), beq-refl (a .proprietary), beq-refl (a .transport))
 
 pub place-refl : (a : Place) → samePlace a a ≡ true
 unfolding samePlace

@@ -48,6 +48,16 @@ pub data Map : Type 0 where
   Conflict : Map
   Held : Head → (ℕ → Option Place) → Map
 
+abbrev pub isNothing : Map → Bool
+isNothing Nothing = true
+isNothing Conflict = false
+isNothing (Held h at) = false
+
+abbrev pub isConflict : Map → Bool
+isConflict Nothing = false
+isConflict Conflict = true
+isConflict (Held h at) = false
+
 -- the map of a set
 abbrev pub mapOf : List Message → Map
 mapOf [] = Nothing
@@ -89,15 +99,15 @@ agrees none x = true
 agrees (some y) x = samePlace y x
 
 -- the places with that of one message more
-abbrev pub put : (ℕ → Option Place) → Message → ℕ → Option Place
-put at m p = cond (eqb (m .position) p) (some (m .place)) (at p)
+abbrev pub placesWith : (ℕ → Option Place) → Message → ℕ → Option Place
+placesWith at m p = cond (eqb (m .position) p) (some (m .place)) (at p)
 
 -- a message contradicts nothing of a map
-unfoldable pub fits : Head → (ℕ → Option Place) → Message → Bool
-fits h at m = sameHead h (m .head) && agrees (at (m .position)) (m .place)
+unfoldable pub agreesWith : Head → (ℕ → Option Place) → Message → Bool
+agreesWith h at m = sameHead h (m .head) && agrees (at (m .position)) (m .place)
 
 -- a map after one message more
 abbrev pub learned : Map → Message → Map
-learned Nothing m = Held (m .head) (put (λ p. none) m)
+learned Nothing m = Held (m .head) (placesWith (λ p. none) m)
 learned Conflict m = Conflict
-learned (Held h at) m = cond (fits h at m) (Held h (put at m)) Conflict
+learned (Held h at) m = cond (agreesWith h at m) (Held h (placesWith at m)) Conflict

@@ -4,40 +4,21 @@ use Prim.Native.Nat.{ℕ, _+_, _-_, _*_, _/_, _%_, _^_, _≤_, _<_}
 use mathlib.Core.Path.{_≡_, refl, sym, ap, _∙_}
 use mathlib.Core.Logic.{_↔_}
 use mathlib.Core.Bool.{Bool, true, false, cond, not, _&&_, _||_, true≢false}
-use mathlib.Core.List.{List, [], _∷_}
-use mathlib.Core.Option.{Option, none, some, Option·none-ne-some, Option·some-injective}
-use lib.Dec.{T, eqb, ltb}
+use mathlib.Core.List.{List}
+use mathlib.Core.Option.{none, some, Option·none-ne-some, Option·some-injective}
+use lib.Dec.{eqb, ltb}
 use lib.ListN.{getD}
 use native.Mathlib.Omega.{arith}
 use native.Mathlib.Decide.{ℕ-discrete}
 use native.Mathlib.Nat.{mod-eq-of-lt}
 use borrow.Author.Tests.{eq-eqb, ne-eqb, eqb-true, eqb-false, ltb-false, leb-false, le-ltb, lt-leb, not-false}
+use Rattle.answers.proofs.Tests.{None, none-applies, applies-none, passed, stopped, bounded}
 use Rattle.frame.specs.declared.Fields.{Fields}
-use Rattle.frame.specs.Frame.{fieldsOf, pgnOf}
+use Rattle.frame.specs.Frame.{greatestIdentifier, fieldsOf, pgnOf}
 use Rattle.message.specs.declared.Wire.{Wire}
 use Rattle.message.specs.declared.Message.{Message}
-use Rattle.message.specs.Message.{Test, firstOf, wireOf, frameTests, dataTests, refusalOf, messageOf, heard}
-use Rattle.message.proofs.Tests.{numbered, passed, stopped}
-
--- none of the tests applies
-abbrev pub None : List Test → Type 0
-None [] = Unit {0}
-None (t ∷ ts) = (t .applies ≡ false) × None ts
-
--- the first that applies is 0 exactly where none applies
-pub none-applies : (ts : List Test) → T (numbered ts) → firstOf ts 0 ≡ 0 → None ts
-none-applies [] h e = tt
-none-applies (t ∷ ts) h e = go (t .applies) (eqb (t .number) 0) refl refl h e (none-applies ts)
-  where
-    go : (a z : Bool) → t .applies ≡ a → eqb (t .number) 0 ≡ z → T (not z && numbered ts) → cond a (t .number) (firstOf ts 0) ≡ 0
-        → (T (numbered ts) → firstOf ts 0 ≡ 0 → None ts) → (t .applies ≡ false) × None ts
-    go a true p q h e ih = absurd h
-    go true false p q h e ih = absurd (true≢false (sym (eq-eqb _ _ e) ∙ q))
-    go false false p q h e ih = (p, ih h e)
-
-pub applies-none : (ts : List Test) → None ts → firstOf ts 0 ≡ 0
-applies-none [] n = refl
-applies-none (t ∷ ts) n = rw (n .0) (applies-none ts (n .1))
+use Rattle.message.specs.Message.{wireOf, frameTests, dataTests, refusalOf, messageOf, heard}
+use Rattle.answers.specs.Tests.{firstOf}
 
 neither : (a b : Bool) → (a || b) ≡ false → (a ≡ false) × (b ≡ false)
 neither true b e = absurd (true≢false e)
@@ -89,7 +70,7 @@ module _ (id len : ℕ) (f : Fields) (w : Wire) where
       let some-position : w .position ≡ 0 → ⊥ = eqb-false (w .position) 0 m₆ in
       let some-start : w .start ≡ 0 → ⊥ = eqb-false (w .start) 0 p₃ in
       record {
-        identifier = omega (arith, ltb-false 536870911 id a);
+        identifier = omega (arith, ltb-false greatestIdentifier id a);
         pgn = eqb-true (pgnOf f) 45056 (not-false _ b);
         long = eqb-true len 8 (not-false _ c);
         source = leb-false 254 (f .source) s;
@@ -104,7 +85,7 @@ module _ (id len : ℕ) (f : Fields) (w : Wire) where
   then-none : WellFormed id len f w → None (frameTests id len f) × None (dataTests w)
   then-none h =
       let (k, k₁, k₂, e) = h .configured in (
-        (le-ltb 536870911 id (omega (arith, h .identifier)), (ap not (eq-eqb (pgnOf f) 45056 (h .pgn)), (ap not (eq-eqb len 8 (h .long)), (lt-leb 254 (f .source) (h .source), tt)))),
+        (le-ltb greatestIdentifier id (omega (arith, h .identifier)), (ap not (eq-eqb (pgnOf f) 45056 (h .pgn)), (ap not (eq-eqb len 8 (h .long)), (lt-leb 254 (f .source) (h .source), tt)))),
         (
           nor (nor (le-ltb (w .pgn) 45312 (omega arith)) (le-ltb 48896 (w .pgn) (omega arith))) (ap not (eq-eqb (w .pgn % 256) 0 (omega arith))),
           (
@@ -209,3 +190,8 @@ module _ (id len : ℕ) (d : List ℕ) where
   heard-ranges h m e =
       let (z, q) = heard-message m e in
       rw q (ranges id len (fieldsOf id) (wireOf d) (spn-bits d h) (heard-exactly .0 z))
+
+  -- a refusal of a frame is 1 to 8
+  pub at-most-eight : heard id len d .number ≤ 8
+  unfolding heard
+  at-most-eight = bounded 8 (frameTests id len (fieldsOf id)) tt _ (bounded 8 (dataTests (wireOf d)) tt 0 (omega arith))

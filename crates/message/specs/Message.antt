@@ -7,15 +7,15 @@ use mathlib.Core.List.{List, [], _∷_}
 use mathlib.Core.Option.{Option, none, some}
 use lib.Dec.{eqb, leb, ltb}
 use lib.ListN.{getD}
+use Rattle.answers.specs.Tests.{Test, _when_, firstOf}
 use Rattle.frame.specs.declared.Fields.{Fields}
 use Rattle.frame.specs.declared.Three.{Three}
-use Rattle.frame.specs.Frame.{bits, fieldsOf, pgnOf, destinationOf, threeOf, spnOf, restOf}
+use Rattle.frame.specs.Frame.{greatestIdentifier, bits, fieldsOf, pgnOf, destinationOf, threeOf, spnOf, restOf}
 use Rattle.message.specs.declared.Wire.{Wire}
 use Rattle.message.specs.declared.Message.{Message}
 use Rattle.message.specs.declared.Decoded.{Decoded}
 use Rattle.message.specs.declared.Decoded.the-variants.{Refused, Taken}
 
-infix 70 _when_
 -- ---- the wire
 
 -- byte 1 to 8 of the message, as 002 counts
@@ -42,19 +42,6 @@ wireOf d = record {
 
 -- ---- the tests
 
--- a test, and the number of the answer that it gives
-pub record Test : Type 0 where
-  pub applies : Bool
-  pub number : ℕ
-
-abbrev pub _when_ : ℕ → Bool → Test
-n when b = record { applies = b; number = n }
-
--- "tested in order": the number of the first test that applies, and `later` where none does
-abbrev pub firstOf : List Test → ℕ → ℕ
-firstOf [] later = later
-firstOf (t ∷ ts) later = cond (t .applies) (t .number) (firstOf ts later)
-
 -- "configured PGN not one of the fifteen": they are 45056 + 256 k, k = 1 to 15, so 45312 to 48896
 abbrev pub foreign : ℕ → Bool
 foreign pgn = ltb pgn 45312 || ltb 48896 pgn || not (eqb (pgn % 256) 0)
@@ -68,21 +55,22 @@ abbrev pub miscounted : ℕ → ℕ → ℕ → Bool
 miscounted n position first =
     eqb n 0 || ltb 64 n || eqb position 0 || ltb n position || (eqb first 1 && not (eqb position 1))
 
--- "start outside 0..14,279, or a pattern that 5.3.1.8 excludes": the start is the wire's number less 1, and 251 to 255 are excluded
+-- "start outside 0..14,279, or a pattern that 5.3.1.8 excludes": the start is the wire's number less 1, and 251 to 255 are excluded.
+-- On this wire the limit of 14,280 is idle, since no start above 250 is left: it stands here because 01 names it
 abbrev pub misplaced : ℕ → Bool
 misplaced wire = eqb wire 0 || ltb 14280 wire || ltb 250 wire
 
 -- what the frame says: identifier above 2^29 - 1; another PGN; length; source
-abbrev pub frameTests : ℕ → ℕ → Fields → List Test
+abbrev pub frameTests : ℕ → ℕ → Fields → List (Test ℕ)
 frameTests id len f =
-    1 when ltb 0x1fff_ffff id
+    1 when ltb greatestIdentifier id
     ∷ 2 when not (eqb (pgnOf f) 45056)
     ∷ 3 when not (eqb len 8)
     ∷ 4 when leb 254 (f .source)
     ∷ []
 
 -- what the eight bytes say
-abbrev pub dataTests : Wire → List Test
+abbrev pub dataTests : Wire → List (Test ℕ)
 dataTests w =
     5 when foreign (w .pgn)
     ∷ 6 when unflagged (w .proprietary) (w .transport) (w .first)

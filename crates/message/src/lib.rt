@@ -3,7 +3,8 @@ ghost use mathlib.Core.Path.{_≡_};
 ghost use Prim.Native.Nat.{_-_};
 ghost use lib.Dec.{eqb};
 ghost use Rattle.frame.specs.Frame.{pgnOf};
-ghost use Rattle.message.specs.Message.{wireOf, foreign, unflagged, miscounted, misplaced, frameTests, dataTests, firstOf, messageOf, heardOf, heardFrom, heard};
+ghost use Rattle.message.specs.Message.{wireOf, foreign, unflagged, miscounted, misplaced, frameTests, dataTests, messageOf, heardOf, heardFrom, heard};
+ghost use Rattle.answers.specs.Tests.{firstOf};
 use frame::Fields;
 use frame::Three;
 use frame::pick8;
@@ -103,7 +104,7 @@ pub fn is_miscounted(n: u8, position: u8, first: u8) -> bool
     (n == 0) | (64 < n) | (position == 0) | (n < position) | ((first == 1) & (position != 1))
 }
 
-// Whether a starting bit of the wire names no bit of a payload.
+// Whether a starting bit of the wire names no bit of a payload: 01's limit, which is idle here, and the wire's own.
 pub fn is_misplaced(start: u32) -> bool
     ensures { λ r. ⌜ r ≡ misplaced start ⌝ }
 {
@@ -125,7 +126,7 @@ pub fn frame_fault(id: u32, len: u8, f: Fields) -> u8
     let four = pick8(254 <= f.source, 4, 0);
     let three = pick8(len != 8, 3, four);
     let two = pick8(!is_configuration(f), 2, three);
-    pick8(0x1fff_ffff < id, 1, two)
+    pick8(frame::GREATEST < id, 1, two)
 }
 
 // The first of 5 to 8 that applies, or 0.

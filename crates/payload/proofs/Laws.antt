@@ -2,55 +2,52 @@
 -- packed numbers back, and packing what was read gives the payload with its unassigned bits set to 1. Assumes nothing.
 use mathlib.Core.Path.{_≡_, refl, sym, ap, _∙_}
 use mathlib.Core.Bool.{Bool, true, false, cond, _||_}
-use mathlib.Core.List.{List, _++_}
+use mathlib.Core.List.{List}
 use mathlib.Core.Logic.{⊎-elim}
-use Prim.Native.Nat.{ℕ, zero, suc, _+_, _*_, _/_, _%_, _≤_, _<_}
+use Prim.Native.Nat.{ℕ, zero, suc, _*_, _≤_, _<_}
 use native.Mathlib.Nat.{not-suc-le-zero, le-of-suc-le-suc, eq-or-lt-of-le, mod-eq-of-lt, le-refl}
-use native.Mathlib.Numerals.{add-one}
 use native.Mathlib.Omega.{arith}
 use borrow.Author.Tests.{eqb-false}
 use lib.Dec.{eqb}
-use lib.ListN.{length, getD, drop}
+use lib.ListN.{length, getD}
 use lib.Seq.{ext-getD}
-use Rattle.payload.specs.Bits.{bitOf, bitAt, fromBits, tabulate, laid, any}
-use Rattle.payload.specs.Place.{placeIn, assignedTo, assigned, sizeOf}
-use Rattle.payload.specs.Payload.{laidAll, packed, readNumber, readAll, filled, Apart, Fit}
-use Rattle.payload.proofs.Below.{neither, any-each}
-use Rattle.payload.proofs.Bits.{bit-lt, bitAt-lt, bytes-same, bit-from, from-same, from-of, bit-bytes, length-tabulate, get-tabulate, length-bytes, bytes-by-bits, write-all}
-use Rattle.payload.proofs.Laid.{laid-out, laid-at, laid-all, laid-one}
+use Rattle.words.specs.First.{any}
+use Rattle.words.proofs.Lists.{length-tabulate, get-tabulate}
+use Rattle.words.proofs.Lowest.{neither, any-each, any-zero, any-more}
+use Rattle.places.specs.Place.{bitPlace, assignedTo, assigned, sizeOf, Apart}
+use Rattle.bits.specs.Bits.{bit, bitAt, readNumber}
+use Rattle.bits.proofs.After.{after-out, after-at, after-one}
+use Rattle.bits.proofs.Bits.{bitAt-lt, bytes-same, bit-from, from-same, from-of, bit-bytes, length-bytes}
+use Rattle.payload.specs.Payload.{bitAfterAll, packed, readAll, filled, Fit}
+use Rattle.payload.proofs.Turns.{all-lt}
 
 module _ (ss ws vs : List ℕ) where
-  all-lt : (n p : ℕ) → laidAll ss ws vs n p 1 < 2
-  unfolding laidAll
-  all-lt zero p = omega arith
-  all-lt (suc n) p = laid-all (λ (x : ℕ). x < 2) _ _ _ p _ (λ j l e. bit-lt _ j) (all-lt n p)
-
-  -- the place of bit k of number i, once the numbers of the first n are laid
+  -- the place of bit k of number i, once the numbers of the first n are bitAfter
   all-at : Apart ss ws → (i k : ℕ) → i < length ss → k < getD ws i 0 → (n : ℕ) → i < n → n ≤ length ss
-      → laidAll ss ws vs n (placeIn ss ws i k) 1 ≡ bitOf (getD vs i 0) k
-  unfolding laidAll
+      → bitAfterAll ss ws vs n (bitPlace ss ws i k) 1 ≡ bit (getD vs i 0) k
+  unfolding bitAfterAll
   all-at a i k hi hk zero l m = absurd (not-suc-le-zero l)
   all-at a i k hi hk (suc n) l m =
       ⊎-elim
-      (λ (e : i ≡ n). rw (← e) (laid-at (placeIn ss ws i) (bitOf (getD vs i 0)) (getD ws i 0) k _ hk (λ j q e. a .once i i k j hi hi hk q e .1)))
-      (λ q. laid-out _ _ _ _ _ (λ j r e. let z = a .once i n k j hi (omega arith) hk r e .0 in omega arith) ∙ all-at a i k hi hk n q (omega arith))
+      (λ (e : i ≡ n). rw (← e) (after-at (bitPlace ss ws i) (bit (getD vs i 0)) (getD ws i 0) k _ hk (λ j q e. a .once i i k j hi hi hk q e .1)))
+      (λ q. after-out _ _ _ _ _ (λ j r e. let z = a .once i n k j hi (omega arith) hk r e .0 in omega arith) ∙ all-at a i k hi hk n q (omega arith))
       (eq-or-lt-of-le (le-of-suc-le-suc l))
 
-  all-other : (p n : ℕ) → assignedTo ss ws n p ≡ false → laidAll ss ws vs n p 1 ≡ 1
-  unfolding laidAll assignedTo any
+  all-other : (p n : ℕ) → assignedTo ss ws n p ≡ false → bitAfterAll ss ws vs n p 1 ≡ 1
+  unfolding bitAfterAll assignedTo
   all-other p zero h = refl
   all-other p (suc n) h =
-      let a = neither (assignedTo ss ws n p) _ h in
-      laid-out _ _ _ p _ (λ k l. eqb-false _ _ (any-each (λ k. eqb p (placeIn ss ws n k)) (getD ws n 0) (a .1) k l)) ∙ all-other p n (a .0)
+      let a = neither (assignedTo ss ws n p) _ (sym (any-more _ n) ∙ h) in
+      after-out _ _ _ p _ (λ k l. eqb-false _ _ (any-each (λ k. eqb p (bitPlace ss ws n k)) (getD ws n 0) (a .1) k l)) ∙ all-other p n (a .0)
 
-  bit-is : (p : ℕ) → p < 8 * sizeOf ss ws → bitAt (packed ss ws vs) p ≡ laidAll ss ws vs (length ss) p 1
+  bit-is : (p : ℕ) → p < 8 * sizeOf ss ws → bitAt (packed ss ws vs) p ≡ bitAfterAll ss ws vs (length ss) p 1
   unfolding packed
-  bit-is p l = bit-bytes (λ p. laidAll ss ws vs (length ss) p 1) (all-lt (length ss)) (sizeOf ss ws) p l
+  bit-is p l = bit-bytes (λ p. bitAfterAll ss ws vs (length ss) p 1) (all-lt ss ws vs (length ss)) (sizeOf ss ws) p l
 
   -- bit k of number i stands at its place
   pub packed-at : Apart ss ws → (i k : ℕ) → i < length ss → k < getD ws i 0
-      → bitAt (packed ss ws vs) (placeIn ss ws i k) ≡ bitOf (getD vs i 0) k
-  packed-at a i k hi hk = bit-is (placeIn ss ws i k) (a .inside i k hi hk) ∙ all-at a i k hi hk (length ss) hi (le-refl (length ss))
+      → bitAt (packed ss ws vs) (bitPlace ss ws i k) ≡ bit (getD vs i 0) k
+  packed-at a i k hi hk = bit-is (bitPlace ss ws i k) (a .inside i k hi hk) ∙ all-at a i k hi hk (length ss) hi (le-refl (length ss))
 
   -- every other bit of the L bytes is 1, in any map
   pub packed-other : (p : ℕ) → p < 8 * sizeOf ss ws → assigned ss ws p ≡ false → bitAt (packed ss ws vs) p ≡ 1
@@ -68,7 +65,7 @@ module _ (ss ws vs : List ℕ) where
       number : (i : ℕ) → i < length ss → getD (readAll ss ws (packed ss ws vs)) i 0 ≡ getD vs i 0
       number i l =
           get-tabulate _ (length ss) i l
-          ∙ from-same _ (bitOf (getD vs i 0)) (getD ws i 0) (λ k m. packed-at a i k l m)
+          ∙ from-same _ (bit (getD vs i 0)) (getD ws i 0) (λ k m. packed-at a i k l m)
           ∙ from-of (getD vs i 0) (getD ws i 0) ∙ mod-eq-of-lt (f .each i l)
 
 one-of : (a b : Bool) (x y : ℕ) → cond b x (cond a x y) ≡ cond (a || b) x y
@@ -78,53 +75,23 @@ one-of false b x y = refl
 
 -- packing what was read gives the payload with its unassigned bits set to 1, in any map
 module _ (ss ws payload : List ℕ) where
-  read-bit : (i k : ℕ) → i < length ss → k < getD ws i 0 → bitOf (getD (readAll ss ws payload) i 0) k ≡ bitAt payload (placeIn ss ws i k)
+  read-bit : (i k : ℕ) → i < length ss → k < getD ws i 0 → bit (getD (readAll ss ws payload) i 0) k ≡ bitAt payload (bitPlace ss ws i k)
   unfolding readAll readNumber
   read-bit i k l m =
-      ap (λ (x : ℕ). bitOf x k) (get-tabulate _ (length ss) i l) ∙ bit-from _ (λ j. bitAt-lt payload _) (getD ws i 0) k m
+      ap (λ (x : ℕ). bit x k) (get-tabulate _ (length ss) i l) ∙ bit-from _ (λ j. bitAt-lt payload _) (getD ws i 0) k m
 
-  all-read : (n p : ℕ) → n ≤ length ss → laidAll ss ws (readAll ss ws payload) n p 1 ≡ cond (assignedTo ss ws n p) (bitAt payload p) 1
-  unfolding laidAll assignedTo any
-  all-read zero p l = refl
+  all-read : (n p : ℕ) → n ≤ length ss → bitAfterAll ss ws (readAll ss ws payload) n p 1 ≡ cond (assignedTo ss ws n p) (bitAt payload p) 1
+  unfolding bitAfterAll assignedTo
+  all-read zero p l = rw any-zero
   all-read (suc n) p l =
-      rw (all-read n p (omega arith))
-      (laid-one (placeIn ss ws n) _ (getD ws n 0) p _ (bitAt payload p) (λ k m e. read-bit n k l m ∙ ap (bitAt payload) (sym e))
-      ∙ one-of (assignedTo ss ws n p) (any (λ k. eqb p (placeIn ss ws n k)) (getD ws n 0)) (bitAt payload p) 1)
+      rw (any-more, all-read n p (omega arith))
+      (after-one (bitPlace ss ws n) _ (getD ws n 0) p _ (bitAt payload p) (λ k m e. read-bit n k l m ∙ ap (bitAt payload) (sym e))
+      ∙ one-of (assignedTo ss ws n p) (any (λ k. eqb p (bitPlace ss ws n k)) (getD ws n 0)) (bitAt payload p) 1)
 
   pub packed-read : length payload ≡ sizeOf ss ws → packed ss ws (readAll ss ws payload) ≡ filled ss ws payload
   unfolding packed filled
-  packed-read e = rw e (bytes-same _ _ (sizeOf ss ws) (λ p. all-read (length ss) p (le-refl (length ss))))
+  packed-read e = rw e (bytes-same _ _ (sizeOf ss ws) (λ p l. all-read (length ss) p (le-refl (length ss))))
 
   pub read-length : length (readAll ss ws payload) ≡ length ss
   unfolding readAll
   read-length = length-tabulate _ (length ss)
-
--- ---- what `put_all`, `pack_into` and `read_into` rest on
--- a turn of `put_all` at payload bit p: b at the start, x before the turn, y after it
-pub laid-turn : (ss ws vs : List ℕ) (i p b x y : ℕ) → x ≡ laidAll ss ws vs i p b
-    → y ≡ laid (placeIn ss ws i) (bitOf (getD vs i 0)) (getD ws i 0) p x → y ≡ laidAll ss ws vs (i + 1) p b
-unfolding laidAll
-laid-turn ss ws vs i p b x y e f = rw (add-one, ← e) f
-
--- all bits of 255 are 1
-all-ones : (n p : ℕ) → p < 8 * n → bitAt (tabulate (λ k. 255) n) p ≡ 1
-unfolding bitAt fromBits
-all-ones n p l =
-    ap (λ (x : ℕ). bitOf x (p % 8)) (get-tabulate (λ k. 255) n (p / 8) (omega arith)) ∙ bit-from (λ i. 1) (λ i. omega arith) 8 (p % 8) (omega arith)
-
--- bytes of 255 in which every number was laid are the packed payload
-pub packed-by-bits : (ss ws vs xs ys : List ℕ) → xs ≡ tabulate (λ k. 255) (sizeOf ss ws) → length ys ≡ sizeOf ss ws
-    → ((k : ℕ) → getD ys k 0 < 256) → ((p : ℕ) → bitAt ys p ≡ laidAll ss ws vs (length ss) p (bitAt xs p)) → ys ≡ packed ss ws vs
-unfolding packed
-packed-by-bits ss ws vs xs ys e l b h =
-    bytes-by-bits (λ p. laidAll ss ws vs (length ss) p 1) ys (sizeOf ss ws) l b
-    (λ p m. h p ∙ ap (laidAll ss ws vs (length ss) p) (ap (λ (x : List ℕ). bitAt x p) e ∙ all-ones (sizeOf ss ws) p m))
-
--- a turn of `read_into`, and its end
-abbrev pub readAt : List ℕ → List ℕ → List ℕ → ℕ → ℕ
-readAt ss ws payload i = readNumber payload (getD ss i 0) (getD ws i 0)
-
-pub read-end : (ss ws payload d : List ℕ) → length d ≡ length ss
-    → tabulate (readAt ss ws payload) (length ss) ++ drop (length ss) d ≡ readAll ss ws payload
-unfolding readAll
-read-end ss ws payload d e = rw (← e) (write-all (readAt ss ws payload) d)

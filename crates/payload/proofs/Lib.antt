@@ -1,10 +1,3 @@
-pub mod Below
-pub mod Bits
-pub mod Laid
-pub mod Replace
-pub mod Run
-pub mod Place
-pub mod Previous
+pub mod Turns
+pub mod Fit
 pub mod Laws
-pub mod Placed
-pub mod Told

@@ -1,4 +1,2 @@
-pub mod Bits
-pub mod Place
 pub mod Payload
 pub mod Calls

@@ -1,4 +1,4 @@
--- The numbers of the pairs: two different ports, each 1 to 4, have a number below 12 of their own, and no others have one.
+-- The numbers of the pairs: two different ports, each 1 to 4, have a number below 12, and no others have one.
 -- Assumes nothing.
 use mathlib.Core.Path.{_≡_, refl, sym}
 use mathlib.Core.Bool.{Bool, true, false, and-eq-true-iff}
@@ -45,35 +45,13 @@ pub number-none : (f t : ℕ) → twoPorts f t ≡ false → pairOf f t ≡ 12
 unfolding pairOf
 number-none f t e = rw e
 
--- a pair's number is below 12, and is no other pair's
+-- a pair's number is below 12
 pub number-fits : (f t : ℕ) → twoPorts f t ≡ true → pairOf f t < 12
 number-fits f t e = go (two f t e) (decLt t f)
   where
     go : Two f t → Dec (t < f) → pairOf f t < 12
     go b (yes h) = omega (arith, number-above f t e h)
     go b (no h) = omega (arith, number-below f t e (omega arith))
-
-pub number-own : (f t f′ t′ : ℕ) → twoPorts f t ≡ true → twoPorts f′ t′ ≡ true
-    → pairOf f t ≡ pairOf f′ t′ → (f ≡ f′) × (t ≡ t′)
-number-own f t f′ t′ e e′ q = go (two f t e) (two f′ t′ e′) (decLt t f) (decLt t′ f′)
-  where
-    go : Two f t → Two f′ t′ → Dec (t < f) → Dec (t′ < f′) → (f ≡ f′) × (t ≡ t′)
-    go b b′ (yes h) (yes h′) =
-        let p = number-above f t e h in
-        let p′ = number-above f′ t′ e′ h′ in
-        (omega arith, omega arith)
-    go b b′ (yes h) (no h′) =
-        let p = number-above f t e h in
-        let p′ = number-below f′ t′ e′ (omega arith) in
-        (omega arith, omega arith)
-    go b b′ (no h) (yes h′) =
-        let p = number-below f t e (omega arith) in
-        let p′ = number-above f′ t′ e′ h′ in
-        (omega arith, omega arith)
-    go b b′ (no h) (no h′) =
-        let p = number-below f t e (omega arith) in
-        let p′ = number-below f′ t′ e′ (omega arith) in
-        (omega arith, omega arith)
 
 -- the test of the ports by the number
 pub by-number : (f t : ℕ) → twoPorts f t ≡ ltb (pairOf f t) 12

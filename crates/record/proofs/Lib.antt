@@ -1,2 +1,4 @@
 pub mod Laws
 pub mod Cutting
+pub mod Chunks
+pub mod Bytes

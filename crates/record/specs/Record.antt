@@ -1,6 +1,6 @@
 -- The 13 bytes of a record, both ways (01, "The listing program": "identifier least significant byte first, length, 8 data bytes").
 -- Assumes nothing.
-use Prim.Native.Nat.{ℕ, _+_, _*_, _/_, _%_, _^_}
+use Prim.Native.Nat.{ℕ, _+_, _*_, _/_, _%_, _^_, _<_}
 use mathlib.Core.Bool.{cond}
 use mathlib.Core.List.{List, [], _∷_}
 use lib.Dec.{ltb}
@@ -48,3 +48,8 @@ bytesOf id len d =
 -- a record laid over the first 13 bytes; 13, and nothing written, where there are fewer
 unfoldable pub written : List ℕ → ℕ → ℕ → List ℕ → Outcome
 written l id len d = outcome (plain (cond (fits l 0 (bytesOf id len d)) 0 13)) (laid l 0 (bytesOf id len d))
+
+-- a list of bytes: what the type of a slice carries
+abbrev pub Bytes : List ℕ → Type 0
+Bytes [] = Unit {0}
+Bytes (x ∷ l) = (x < 2 ^ 8) × Bytes l

@@ -1,8 +1,15 @@
-// The 13 bytes of a record of a log (01, "The listing program"): identifier least significant byte first, length, 8 data bytes.
+// The 13 bytes of a record of a log (01, "The listing program"): identifier least significant byte first, length, 8 data bytes. And what a log that comes
+// in chunks needs: the bytes of a cut record, carried from one chunk to the next.
 ghost use mathlib.Core.Path.{_≡_};
+ghost use mathlib.Core.List.{_++_};
+ghost use Prim.Native.Nat.{_≤_};
 ghost use Rattle.answers.specs.Answers.{outcome, inNumbers};
 ghost use Rattle.record.specs.Record.{fourOf, recordIn, bytesOf, written};
+ghost use Rattle.record.specs.Chunk.{leftIn, padded};
 use answers::Answer;
+
+// The bytes of a record.
+pub const SIZE: usize = 13;
 
 // A frame as a log has it.
 pub struct Record {
@@ -22,7 +29,7 @@ fn four(a: u8, b: u8, c: u8, d: u8) -> u32
 pub fn read(s: &[u8]) -> Record
     ensures { λ r. ⌜ r ≡ recordIn (now (s .entry)) ⌝ }
 {
-    if s.len() < 13 {
+    if s.len() < SIZE {
         return Record {
             id: 0,
             len: 0,
@@ -38,7 +45,7 @@ pub fn read(s: &[u8]) -> Record
 }
 
 // The 13 bytes of a frame.
-fn bytes_of(id: u32, len: u8, d: &[u8; 8]) -> [u8; 13]
+fn bytes_of(id: u32, len: u8, d: &[u8; 8]) -> [u8; SIZE]
     ensures { λ r. ⌜ r ≡ bytesOf id len (now (d .entry)) ⌝ }
 {
     [
@@ -67,4 +74,27 @@ pub fn write(s: &mut [u8], id: u32, len: u8, d: &[u8; 8]) -> Answer
         return answers::plainly(0);
     }
     answers::plainly(13)
+}
+
+// ---- chunks
+
+// How many bytes are carried: 13 or more, as no cut record leaves, counts as 0.
+pub fn left_in(left: usize) -> usize
+    ensures { λ r. ⌜ (r ≡ leftIn left) × (r ≤ 12) ⌝ }
+{
+    if left < SIZE { left } else { 0 }
+}
+
+// 13 bytes: the carried ones and those behind them, as many as fit, and 0 in the rest.
+pub fn joined(carry: &[u8], more: &[u8]) -> [u8; SIZE]
+    ensures { λ r. ⌜ r ≡ padded (now (carry .entry) ++ now (more .entry)) ⌝ }
+{
+    let mut b = [0u8; SIZE];
+    splice::copy_in(&mut b, carry);
+    let n = carry.len();
+    if n < SIZE {
+        splice::copy_in(&mut b[n..], more);
+        return b;
+    }
+    b
 }

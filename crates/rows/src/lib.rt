@@ -1,14 +1,8 @@
-// The rows of the dictionary: each SPN that 002 defines with a fixed length of 1 to 32 bits, once, in rising order, with its width
+// The rows of the dictionary as a const table: each SPN that 002 defines with a fixed length of 1 to 32 bits, once, in rising order, with its width
 // (01, "A set and its judgement"; 002, Appendix C and 5.3). tools/rowscheck compares them with 002's text. The crate is slow to check,
-// so it holds the table alone, with its rule tested over all rows; the look-up is the crate dictionary's.
+// so it holds the table alone; its rule is tested in the crate rowrule, and the look-up is the crate dictionary's.
 ghost use mathlib.Core.Path.{_≡_};
-ghost use Rattle.rows.specs.Rows.{pairs};
-
-// A row of the dictionary: an SPN and its width in bits.
-pub struct Row {
-    pub spn: u32,
-    pub width: u32,
-}
+ghost use Rattle.rowrule.specs.Rows.{pairs};
 
 // How many rows there are.
 pub const COUNT: usize = 140;

@@ -1,7 +1,8 @@
-// Questions about a key: judge and count, find, pack and read.
+// Questions about a key: judge and count, find, the parameter at a position, pack and read.
 use crate::said::number;
 use answers::Answer;
 use ask::Found;
+use ask::Parameter;
 use libc::STDIN_FILENO;
 use lines::bytes;
 use lines::end;
@@ -12,7 +13,7 @@ use lines::numbers;
 use lines::room;
 use lines::two;
 use lines::words;
-use table::WORDS;
+use lookup::WORDS;
 
 fn judged(a: Answer, n: u8) {
     number(a);
@@ -25,6 +26,14 @@ fn found(f: Found) {
     more(f.position as u32);
     more(f.start);
     more(f.width);
+    end();
+}
+
+fn parameter(p: Parameter) {
+    number(p.answer);
+    more(p.spn);
+    more(p.start);
+    more(p.width);
     end();
 }
 
@@ -62,6 +71,7 @@ pub(crate) fn run(t: &[u64; WORDS], b: &[u8; 14]) {
             ask::count(t, b[1], b[2], b[3]),
         ),
         11 => found(ask::find(t, b[1], b[2], b[3], four(b[4], b[5], b[6], b[7]))),
+        14 => parameter(ask::parameter_at(t, b[1], b[2], b[3], b[4])),
         _ => with_lists(t, b),
     }
 }

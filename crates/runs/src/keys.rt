@@ -6,8 +6,8 @@ use lines::four;
 use lines::long;
 use lines::more;
 use lines::two;
-use table::Next;
-use table::WORDS;
+use lookup::Next;
+use lookup::WORDS;
 
 // A key, where there is one, and whether there is.
 fn is_key(n: Next) -> bool {
@@ -24,7 +24,7 @@ fn is_key(n: Next) -> bool {
 
 fn after(t: &[u64; WORDS], n: Next) -> Next {
     match n {
-        Next::Found(k) => table::next_key(t, k.source, k.destination, k.k),
+        Next::Found(k) => lookup::next_key(t, k.source, k.destination, k.k),
         Next::NoMore => Next::NoMore,
     }
 }
@@ -32,7 +32,7 @@ fn after(t: &[u64; WORDS], n: Next) -> Next {
 // The held keys; 16 at most, so a walk that goes on past 20 is broken off.
 fn walk(t: &[u64; WORDS]) {
     io::write_all(STDOUT_FILENO, b"keys");
-    let mut at = table::first_key(t);
+    let mut at = lookup::first_key(t);
     let mut turns = 0u32;
     while turns < 20 && is_key(at) {
         at = after(t, at);
@@ -43,7 +43,7 @@ fn walk(t: &[u64; WORDS]) {
 
 fn next(t: &[u64; WORDS], source: u8, destination: u8, k: u8) {
     io::write_all(STDOUT_FILENO, b"next");
-    is_key(table::next_key(t, source, destination, k));
+    is_key(lookup::next_key(t, source, destination, k));
     end();
 }
 

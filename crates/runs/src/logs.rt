@@ -1,16 +1,16 @@
 // A log in chunks, and its listing.
 use crate::said::answer;
+use feeding::Tally;
 use libc::STDIN_FILENO;
 use libc::STDOUT_FILENO;
 use lines::end;
 use lines::front;
 use lines::two;
-use listing::Tally;
-use table::WORDS;
+use lookup::WORDS;
 
 fn fed(t: &mut [u64; WORDS], tally: Tally, chunk: &mut [u8]) -> Tally {
     io::read_full(STDIN_FILENO, chunk);
-    listing::feed(t, tally, chunk)
+    feeding::feed(t, tally, chunk)
 }
 
 // Takes the next chunk, with its size before it.
@@ -36,7 +36,7 @@ fn finish_in(t: &[u64; WORDS], tally: Tally, size: usize) {
 }
 
 fn all(t: &mut [u64; WORDS], chunks: usize) -> Tally {
-    let mut tally = listing::start();
+    let mut tally = feeding::start();
     let mut i = 0usize;
     while i < chunks {
         tally = next(t, tally);

@@ -15,7 +15,8 @@
 //   11 key, SPN                      what find answers, with position, start and width
 //   12 key, numbers, buffer          what pack answers, and the whole buffer
 //   13 key, room, payload            what read answers, and the whole room
-//   14 chunks, buffer                what the listing of a log in chunks answers, and the whole buffer as text
+//   14 key, position                 what parameter_at answers, with SPN, start and width
+//   15 chunks, buffer                what the listing of a log in chunks answers, and the whole buffer as text
 mod asks;
 mod filters;
 mod keys;
@@ -24,7 +25,7 @@ mod said;
 
 use libc::STDIN_FILENO;
 
-fn run(w: &mut [u32; ports::WORDS], t: &mut [u64; table::WORDS], b: &[u8; 14]) {
+fn run(w: &mut [u32; ports::WORDS], t: &mut [u64; lookup::WORDS], b: &[u8; 14]) {
     match b[0] {
         0 => {
             ports::fresh(w);
@@ -32,13 +33,13 @@ fn run(w: &mut [u32; ports::WORDS], t: &mut [u64; table::WORDS], b: &[u8; 14]) {
         }
         1..=3 => filters::run(w, b),
         4..=9 => keys::run(t, b),
-        10..=13 => asks::run(t, b),
+        10..=14 => asks::run(t, b),
         _ => logs::run(t, b),
     }
 }
 
 // Reads one case and runs it; false where the input ends.
-fn case(w: &mut [u32; ports::WORDS], t: &mut [u64; table::WORDS]) -> bool {
+fn case(w: &mut [u32; ports::WORDS], t: &mut [u64; lookup::WORDS]) -> bool {
     let mut b = [0u8; 14];
     let n = io::read_full(STDIN_FILENO, &mut b);
     if n < 14 {
@@ -51,7 +52,7 @@ fn case(w: &mut [u32; ports::WORDS], t: &mut [u64; table::WORDS]) -> bool {
 // What the calls are lent stands here. A proved loop has to end, so it counts its turns down, from a number that no run uses up.
 fn main() {
     let mut w = [0u32; ports::WORDS];
-    let mut t = [0u64; table::WORDS];
+    let mut t = [0u64; lookup::WORDS];
     let mut turns = u64::MAX;
     while turns > 0 && case(&mut w, &mut t) {
         turns -= 1;

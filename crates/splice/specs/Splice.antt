@@ -10,8 +10,8 @@ abbrev pub splice : List ℕ → ℕ → List ℕ → List ℕ
 splice l at x = take at l ++ (x ++ drop (at + length x) l)
 
 -- s over the start of d, as far as both reach
-abbrev pub over : List ℕ → List ℕ → List ℕ
-over d s = take (length d) s ++ drop (length s) d
+abbrev pub covered : List ℕ → List ℕ → List ℕ
+covered d s = take (length d) s ++ drop (length s) d
 
 -- x has room in l from `at` on
 abbrev pub fits : List ℕ → ℕ → List ℕ → Bool

@@ -1,11 +1,11 @@
 // Bytes laid into a lent buffer, from a given byte on and nowhere else.
 ghost use mathlib.Core.Path.{_≡_};
 ghost use Prim.Native.Nat.{_+_};
-ghost use Rattle.splice.specs.Splice.{over, fits, laid};
+ghost use Rattle.splice.specs.Splice.{covered, fits, laid};
 
 // Copies src over the start of dst, as far as both reach.
 pub fn copy_in(dst: &mut [u8], src: &[u8])
-    ensures { λ _. ⌜ now (dst .exit) ≡ over (now (dst .entry)) (now (src .entry)) ⌝ }
+    ensures { λ _. ⌜ now (dst .exit) ≡ covered (now (dst .entry)) (now (src .entry)) ⌝ }
 {
     let mut i = 0;
     while i < src.len() {

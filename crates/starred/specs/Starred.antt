@@ -14,7 +14,7 @@ use Rattle.message.specs.declared.Message.{Message}
 use Rattle.dictionary.specs.Dictionary.{widthOf}
 use Rattle.payload.specs.Payload.{packed, readAll}
 use Rattle.maps.specs.Maps.{Map, mapOf}
-use Rattle.maps.specs.Judge.{judge, usable, startsOf, widthsOf, lengthOf}
+use Rattle.judge.specs.Judge.{judge, usable, startsOf, widthsOf, lengthOf}
 
 infix 70 _from_
 -- ---- maps, as 01 tells them: each parameter with its start, in position order
@@ -35,8 +35,8 @@ messages n transport p (x ∷ xs) =
     ∷ messages n transport (suc p) xs
 
 -- the map that those messages teach; "Transport is no unless said"
-abbrev pub taught : Bool → List Place → Map
-taught transport xs = mapOf (messages (length xs) transport 1 xs)
+abbrev pub mapWith : Bool → List Place → Map
+mapWith transport xs = mapOf (messages (length xs) transport 1 xs)
 
 -- ---- cases
 
@@ -50,7 +50,7 @@ pub data Case : Type 0 where
   -- a usable map, and its L
   Lasts : Map → ℕ → Case
   -- an identifier, and its PGN
-  Named : ℕ → ℕ → Case
+  Carries : ℕ → ℕ → Case
   -- an identifier, and its PGN, destination and source
   Sent : ℕ → ℕ → ℕ → ℕ → Case
   -- an SPN, and its three bytes with reserved bits 1
@@ -63,16 +63,16 @@ unfoldable pub starred : List Case
 starred =
     Wide 1517 8
     ∷ Wide 1519 2
-    ∷ Packs (taught false (1517 from 0 ∷ 1519 from 8 ∷ [])) (40 ∷ 1 ∷ []) (0x28 ∷ 0xfd ∷ 0xff ∷ 0xff ∷ 0xff ∷ 0xff ∷ 0xff ∷ 0xff ∷ [])
-    ∷ Packs (taught false (1519 from 0 ∷ 1517 from 4 ∷ [])) (2 ∷ 0xa5 ∷ []) (0x5e ∷ 0xfa ∷ 0xff ∷ 0xff ∷ 0xff ∷ 0xff ∷ 0xff ∷ 0xff ∷ [])
-    ∷ Judges (taught false (1517 from 0 ∷ 1519 from 7 ∷ [])) 6 2
-    ∷ Judges (taught false (1517 from 0 ∷ 1519 from 8 ∷ [])) 0 0
-    ∷ Lasts (taught false (1519 from 62 ∷ [])) 8
-    ∷ Judges (taught false (1519 from 63 ∷ [])) 8 0
-    ∷ Lasts (taught true (1519 from 63 ∷ [])) 9
-    ∷ Lasts (taught true (1517 from 14272 ∷ [])) 1785
-    ∷ Judges (taught true (1517 from 14273 ∷ [])) 7 1
-    ∷ Named 0x18fee300 65251
+    ∷ Packs (mapWith false (1517 from 0 ∷ 1519 from 8 ∷ [])) (40 ∷ 1 ∷ []) (0x28 ∷ 0xfd ∷ 0xff ∷ 0xff ∷ 0xff ∷ 0xff ∷ 0xff ∷ 0xff ∷ [])
+    ∷ Packs (mapWith false (1519 from 0 ∷ 1517 from 4 ∷ [])) (2 ∷ 0xa5 ∷ []) (0x5e ∷ 0xfa ∷ 0xff ∷ 0xff ∷ 0xff ∷ 0xff ∷ 0xff ∷ 0xff ∷ [])
+    ∷ Judges (mapWith false (1517 from 0 ∷ 1519 from 7 ∷ [])) 6 2
+    ∷ Judges (mapWith false (1517 from 0 ∷ 1519 from 8 ∷ [])) 0 0
+    ∷ Lasts (mapWith false (1519 from 62 ∷ [])) 8
+    ∷ Judges (mapWith false (1519 from 63 ∷ [])) 8 0
+    ∷ Lasts (mapWith true (1519 from 63 ∷ [])) 9
+    ∷ Lasts (mapWith true (1517 from 14272 ∷ [])) 1785
+    ∷ Judges (mapWith true (1517 from 14273 ∷ [])) 7 1
+    ∷ Carries 0x18fee300 65251
     ∷ Sent 0x18ed20f8 60672 32 248
     ∷ Spelt 1517 (three 0xed 0x05 0x1f)
     ∷ Spelt 65536 (three 0x00 0x00 0x3f)
@@ -93,19 +93,19 @@ abbrev pub sameThree : Three → Three → Bool
 sameThree a b = eqb (a .first) (b .first) && (eqb (a .second) (b .second) && eqb (a .third) (b .third))
 
 -- the payload of a map's numbers, and the numbers that are read from it
-abbrev pub packedBy : Map → List ℕ → List ℕ
-packedBy m numbers = packed (startsOf widthOf m) (widthsOf widthOf m) numbers
+abbrev pub payloadFor : Map → List ℕ → List ℕ
+payloadFor m numbers = packed (startsOf widthOf m) (widthsOf widthOf m) numbers
 
-abbrev pub readBy : Map → List ℕ → List ℕ
-readBy m payload = readAll (startsOf widthOf m) (widthsOf widthOf m) payload
+abbrev pub numbersFrom : Map → List ℕ → List ℕ
+numbersFrom m payload = readAll (startsOf widthOf m) (widthsOf widthOf m) payload
 
 unfoldable pub right : Case → Bool
 right (Wide spn width) = eqb (widthOf spn) width
 right (Packs m numbers payload) =
-    usable widthOf m && (sameNumbers (packedBy m numbers) payload && sameNumbers (readBy m payload) numbers)
+    usable widthOf m && (sameNumbers (payloadFor m numbers) payload && sameNumbers (numbersFrom m payload) numbers)
 right (Judges m number position) = sameJudged (judge widthOf m) (at number position)
 right (Lasts m bytes) = usable widthOf m && eqb (lengthOf widthOf m) bytes
-right (Named id pgn) = eqb (pgnOf (fieldsOf id)) pgn
+right (Carries id pgn) = eqb (pgnOf (fieldsOf id)) pgn
 right (Sent id pgn destination source) =
     eqb (pgnOf (fieldsOf id)) pgn && (eqb (destinationOf (fieldsOf id)) destination && eqb (fieldsOf id .source) source)
 right (Spelt spn b) = sameThree (spnBytes spn 0x1f) b && eqb (spnOf b) spn

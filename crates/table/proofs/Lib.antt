@@ -1,17 +1,2 @@
 pub mod Words
-pub mod RowKeys
-pub mod View
-pub mod KeyRow
-pub mod RowMaps
 pub mod Frames
-pub mod KeyNumbers
-pub mod Learning
-pub mod Forgetting
-pub mod Refusals
-pub mod Lowest
-pub mod Walk
-pub mod Sane
-pub mod Count
-pub mod Events
-pub mod Histories
-pub mod RunsOfCalls

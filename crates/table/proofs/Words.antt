@@ -1,4 +1,4 @@
--- The words of a row are words of the table, and a word stored there is stored in the row. Assumes nothing.
+-- What is put into a row of the table, and what a word stored there makes of it. Assumes nothing.
 use Prim.Native.Nat.{ℕ, _+_, _*_, _<_}
 use mathlib.Core.Path.{_≡_, ap}
 use mathlib.Core.Bool.{Bool, true, false, cond}
@@ -8,9 +8,12 @@ use lib.ListN.{length, getD, set, replicate}
 use lib.Seq.{set-getD}
 use native.Mathlib.Omega.{arith}
 use Rattle.words.specs.Slots.{Put}
-use Rattle.words.proofs.Rows.{length-rowAt, rowAt-getD, rowAt-head, rowAt-putAt, rowAt-putAt-other, set-row-head}
+use Rattle.words.proofs.Rows.{rowAt-putAt, rowAt-putAt-other, set-row-head}
 use Rattle.history.specs.History.{mostKeys}
-use Rattle.table.specs.Layout.{rowWords, tableWords, stateWord, wordsAre, rowIs, rowOf, putRow}
+use Rattle.keyrow.specs.Row.{rowWords, wordsAre, rowIs}
+use Rattle.lookup.specs.Layout.{tableWords, rowOf}
+use Rattle.lookup.proofs.Words.{row-is}
+use Rattle.table.specs.Layout.{putRow}
 use Rattle.table.specs.Learn.{emptyTable}
 use Rattle.table.specs.Forget.{freeRow}
 
@@ -19,20 +22,6 @@ unfolding emptyTable
 all-free t long = ap (λ (n : ℕ). replicate n 0) long
 
 module _ (t : List ℕ) (long : length t ≡ tableWords) where
-  pub row-length : (i : ℕ) → i < mostKeys → length (rowOf t i) ≡ rowWords
-  row-length i h = length-rowAt rowWords t i (omega arith)
-
-  -- word k of row i
-  pub row-word : (i k : ℕ) → i < mostKeys → k < rowWords → getD (rowOf t i) k 0 ≡ getD t (i * rowWords + k) 0
-  row-word i k h l = rowAt-getD rowWords t i (omega arith) k l
-
-  pub row-state : (i : ℕ) → i < mostKeys → stateWord (rowOf t i) ≡ getD t (i * rowWords) 0
-  row-state i h = rowAt-head rowWords t i (omega arith) (lit< tt)
-
-  pub row-is : (i key : ℕ) → i < mostKeys → rowIs (rowOf t i) key ≡ wordsAre (getD t (i * rowWords) 0) (getD t (i * rowWords + 1) 0) key
-  unfolding rowIs
-  row-is i key h = rw (row-state i h, row-word i 1 h (lit< tt))
-
   -- a row put in a slot
   pub put : (i : ℕ) → i < mostKeys → (r : List ℕ) → length r ≡ rowWords → Put mostKeys (rowOf t) (rowOf (putRow t i r)) i r
   put i il r rl = record {
@@ -44,7 +33,7 @@ module _ (t : List ℕ) (long : length t ≡ tableWords) where
   -- the state word of row i, stored as it is once the key is forgotten
   pub free-word : (i key : ℕ) → i < mostKeys
       → set t (i * rowWords) (cond (wordsAre (getD t (i * rowWords) 0) (getD t (i * rowWords + 1) 0) key) 0 (getD t (i * rowWords) 0)) ≡ freeRow t key i
-  free-word i key h = rw (← (row-is i key h)) (go (rowIs (rowOf t i) key))
+  free-word i key h = rw (← (row-is t long i key h)) (go (rowIs (rowOf t i) key))
     where
       go : (b : Bool) → set t (i * rowWords) (cond b 0 (getD t (i * rowWords) 0)) ≡ cond b (putRow t i (set (rowOf t i) 0 0)) t
       go true = set-row-head rowWords t i 0 (lit< tt)

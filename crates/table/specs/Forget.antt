@@ -7,7 +7,9 @@ use lib.Dec.{ltb}
 use lib.ListN.{set}
 use Rattle.answers.specs.Answers.{Outcome, outcome, plain}
 use Rattle.history.specs.History.{mostKeys}
-use Rattle.table.specs.Layout.{rowIs, rowOf, putRow, slotOf}
+use Rattle.keyrow.specs.Row.{rowIs}
+use Rattle.table.specs.Layout.{putRow}
+use Rattle.lookup.specs.Layout.{rowOf, slotOf}
 
 -- row i freed where it holds the key: its state is 0, its other words no longer count
 abbrev pub freeRow : List ℕ → ℕ → ℕ → List ℕ

@@ -1,36 +1,23 @@
 -- What learning makes of the words, and what it answers: on any words.
 -- Assumes nothing.
-use Prim.Native.Nat.{ℕ, _+_, _%_, _^_}
-use mathlib.Core.Bool.{Bool, cond, _&&_, _||_}
+use Prim.Native.Nat.{ℕ}
+use mathlib.Core.Bool.{cond}
 use mathlib.Core.Option.{Option, none, some}
 use mathlib.Core.List.{List}
-use lib.Dec.{eqb, ltb}
-use lib.ListN.{set, replicate}
+use lib.Dec.{ltb}
+use lib.ListN.{replicate}
 use Rattle.answers.specs.Answers.{Outcome, outcome, plain}
 use Rattle.message.specs.declared.Message.{Message}
 use Rattle.message.specs.Message.{heard}
 use Rattle.history.specs.History.{mostKeys}
-use Rattle.table.specs.Layout.{rowWords, tableWords, keyNumber, formNumber, cellNumber, stateWord, formWord, cellWord, rowOf, putRow, slotOf, freeSlot}
+use Rattle.keyrow.specs.Row.{keyNumber}
+use Rattle.keyrow.specs.Learn.{learnRow, newRow}
+use Rattle.table.specs.Layout.{putRow}
+use Rattle.lookup.specs.Layout.{tableWords, rowOf, slotOf, freeSlot}
 
 -- every row free
 unfoldable pub emptyTable : List ℕ
 emptyTable = replicate tableWords 0
-
--- the message contradicts nothing of the row: the same n and flags, and at its position nothing or the same SPN and start
-unfoldable pub rowFits : List ℕ → Message → Bool
-rowFits r m = eqb (formWord r % 2 ^ 10) (formNumber (m .head)) && (eqb (cellWord r (m .position)) 0 || eqb (cellWord r (m .position)) (cellNumber (m .place)))
-
--- one message more: "key in conflict, or put there by this message" is 10, and of the words only the state changes
-unfoldable pub learnRow : List ℕ → Message → Outcome
-learnRow r m =
-    cond (eqb (stateWord r) 1)
-    (cond (rowFits r m) (outcome (plain 0) (set r (2 + m .position) (cellNumber (m .place)))) (outcome (plain 10) (set r 0 2)))
-    (outcome (plain 10) r)
-
--- the row of a key that has this one message
-unfoldable pub newRow : Message → List ℕ
-newRow m =
-    set (set (set (set (replicate rowWords 0) 0 1) 1 (keyNumber (m .key))) 2 (formNumber (m .head))) (2 + m .position) (cellNumber (m .place))
 
 -- the words with what became of row i
 abbrev pub inRow : List ℕ → ℕ → Outcome → Outcome

@@ -1,6 +1,3 @@
 pub mod Layout
-pub mod View
 pub mod Learn
 pub mod Forget
-pub mod Next
-pub mod Calls

@@ -1,2 +1,4 @@
 pub mod Decimal
+pub mod Lengths
 pub mod Pages
+pub mod Pieces

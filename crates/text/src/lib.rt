@@ -1,17 +1,18 @@
 // Text in a lent page, one piece after another: bytes as they are, and numbers in decimal (01, "The listing program": "All numbers are decimal").
 ghost use mathlib.Core.Path.{_≡_};
+ghost use mathlib.Core.List.{[], _∷_};
 ghost use Prim.Native.Nat.{_≤_};
 ghost use lib.ListN.{drop};
-ghost use Rattle.text.specs.Text.{decimalOf, page, put};
+ghost use Rattle.text.specs.Text.{decimalOf, page, put, putAll};
 
 // The digits of a number: the bytes from `from` on.
-pub struct Digits {
-    pub bytes: [u8; 20],
-    pub from: usize,
+struct Digits {
+    bytes: [u8; 20],
+    from: usize,
 }
 
 // The decimal digits of a number, most significant first, at the end of 20 bytes.
-pub fn in_decimal(n: u64) -> Digits
+fn in_decimal(n: u64) -> Digits
     ensures { λ r. ⌜ (drop (r .from) (r .bytes) ≡ decimalOf n) × (r .from ≤ 19) ⌝ }
 {
     let mut b = [0u8; 20];
@@ -45,4 +46,12 @@ pub fn put_decimal(out: &mut [u8], at: usize, n: u64) -> usize
     let b = d.bytes;
     let from = d.from;
     put_bytes(out, at, &b[from..])
+}
+
+// Lays a number in decimal, and what stands behind it.
+pub fn put_number(out: &mut [u8], at: usize, n: u64, behind: &[u8]) -> usize
+    ensures { λ r. ⌜ page r (now (out .exit)) ≡ putAll (page at (now (out .entry))) (decimalOf n ∷ now (behind .entry) ∷ []) ⌝ }
+{
+    let at = put_decimal(out, at, n);
+    put_bytes(out, at, behind)
 }

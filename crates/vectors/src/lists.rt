@@ -1,6 +1,5 @@
-// Judging, packing and reading over plain lists, the rooms maps and payload.
+// Judging, packing and reading over plain lists, the rooms judge and payload.
 ghost use Rattle.io.specs.Counts.{Counts};
-use crate::rooms::found;
 use libc::STDIN_FILENO;
 use lines::bytes;
 use lines::end;
@@ -34,7 +33,7 @@ fn laying(l: Laying) {
 }
 
 fn judge(n: u8, transport: bool, spns: &[u32], starts: &[u32], widths: &[u32]) {
-    let j = maps::judge(n, transport, spns, starts, widths);
+    let j = judge::judge(n, transport, spns, starts, widths);
     first(answers::number_of(j));
     more(answers::position_of(j) as u32);
     end();
@@ -67,24 +66,6 @@ fn pattern(seed: u8, n: usize, list: &mut [u8]) -> usize
     i
 }
 
-fn look(rows: &[[u32; 2]], spn: u32) {
-    found(dictionary::row_in(rows, spn));
-    more(dictionary::width_in(rows, spn));
-    end();
-}
-
-// Where an SPN stands in the first n of four rows.
-fn lent(n: u8, spn: u32, g: &[u32; 72]) {
-    let rows = [[g[0], g[1]], [g[2], g[3]], [g[4], g[5]], [g[6], g[7]]];
-    match n {
-        0 => look(&rows[..0], spn),
-        1 => look(&rows[..1], spn),
-        2 => look(&rows[..2], spn),
-        3 => look(&rows[..3], spn),
-        _ => look(&rows, spn),
-    }
-}
-
 // A case of lists: n, transport, how many SPNs, starts, widths and numbers, a seed, how many payload bytes; then those lists.
 pub(crate) fn run(b: &[u8; 14]) {
     let mut spns = room();
@@ -100,12 +81,11 @@ pub(crate) fn run(b: &[u8; 14]) {
     match b[0] {
         8 => judge(b[1], b[2] == 1, &spns[..p], &starts[..s], &widths[..w]),
         9 => pack(&starts[..s], &widths[..w], &given[..g], &mut payload[..n]),
-        10 => read(
+        _ => read(
             &starts[..s],
             &widths[..w],
             &mut given[..g],
             &mut payload[..n],
         ),
-        _ => lent(b[1], spns[0], &given),
     }
 }

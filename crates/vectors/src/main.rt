@@ -12,7 +12,6 @@
 //   8 SPNs, starts, widths           number and position of the judgement
 //   9 starts, widths, numbers        what pack answers, and the whole buffer, filled by a seed before the call
 //   10 the same, and a payload       what read answers, and the whole room, which held those numbers before the call
-//   11 n, SPN, four rows             1 and the SPN's row, or 0; its width, by the first n rows
 mod lists;
 mod rooms;
 

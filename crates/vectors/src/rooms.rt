@@ -85,7 +85,7 @@ fn both(t: Three) {
 }
 
 // The start of a line: 1 and a row's number, or 0.
-pub(crate) fn found(f: Found) {
+fn found(f: Found) {
     match f {
         Found::At(i) => {
             first(1);

@@ -1,11 +1,12 @@
 -- The laws of a table of slots: what a row that is put does to the view of each key. Assumes nothing.
 use mathlib.Core.Path.{_≡_, refl, sym, _∙_}
 use mathlib.Core.Bool.{Bool, true, false, true≢false}
+use mathlib.Core.Option.{some}
 use Prim.Native.Nat.{ℕ, _<_}
 use native.Mathlib.Omega.{arith}
 use native.Mathlib.Decide.{decLt, ℕ-discrete}
 use borrow.Author.Tests.{lt-ltb, le-ltb}
-use Rattle.words.specs.Slots.{held, Put, slot, view, Distinct}
+use Rattle.words.specs.Slots.{Put, slot, view, Distinct}
 use Rattle.words.proofs.First.{first-at, first-same, first-holds, first-below}
 
 -- the slot that is found holds the key, and none below it does
@@ -32,7 +33,7 @@ module _ {R : Type 0} (is : R → ℕ → Bool) (n : ℕ) (f g : ℕ → R) (i :
       go (no h) = simp (same, le-ltb (slot is n f key) n (omega arith))
       go (yes h) = rw (same, p .off (slot is n f key) h (λ e. true≢false (sym (at-slot is n f key h) ∙ rw e was)))
 
-  pub view-own : ((k : ℕ) → k < i → is (f k) key ≡ false) → is r key ≡ true → view is n g key ≡ held r
+  pub view-own : ((k : ℕ) → k < i → is (f k) key ≡ false) → is r key ≡ true → view is n g key ≡ some r
   unfolding view
   view-own below now = simp (here, lt-ltb i n (p .inside), p .at)
     where

@@ -1,4 +1,6 @@
 pub mod First
+pub mod Lists
 pub mod Rows
 pub mod Slots
 pub mod Runs
+pub mod Rising

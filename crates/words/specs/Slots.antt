@@ -2,14 +2,10 @@
 -- Once for every table of the repository, however its rows lie in memory. Assumes nothing.
 use mathlib.Core.Path.{_≡_}
 use mathlib.Core.Bool.{Bool, true, cond}
+use mathlib.Core.Option.{Option, none, some}
 use Prim.Native.Nat.{ℕ, _<_}
 use lib.Dec.{ltb}
 use Rattle.words.specs.First.{first}
-
--- what a table holds of a key
-pub data Held (R : Type 0) : Type 0 where
-  nothing : Held R
-  held : R → Held R
 
 -- g is f with r in slot i
 pub record Put {R : Type 0} (n : ℕ) (f g : ℕ → R) (i : ℕ) (r : R) : Type 0 where
@@ -23,8 +19,8 @@ module _ {R : Type 0} (is : R → ℕ → Bool) (n : ℕ) where
   slot f key = first (λ k. is (f k) key) n
 
   -- the row of the lowest slot with the key, if there is one
-  unfoldable pub view : (ℕ → R) → ℕ → Held R
-  view f key = cond (ltb (slot f key) n) (held (f (slot f key))) nothing
+  unfoldable pub view : (ℕ → R) → ℕ → Option R
+  view f key = cond (ltb (slot f key) n) (some (f (slot f key))) none
 
   -- no key is held twice
   unfoldable pub Distinct : (ℕ → R) → Type 0

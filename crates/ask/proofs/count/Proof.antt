@@ -3,9 +3,10 @@ use mathlib.Core.Path.{sym, ap, _∙_}
 use denote.Ref.{now}
 use native.Mathlib.Omega.{arith}
 use borrow.Author.Needs.{needs}
-use Rattle.maps.specs.Judge.{countOf}
-use Rattle.table.proofs.KeyRow.{no-map, its-map}
-use Rattle.table.proofs.View.{row-held, row-conflict}
+use Rattle.message.specs.declared.Head.{Head}
+use Rattle.judge.specs.Judge.{countOf}
+use Rattle.lookup.proofs.KeyRow.{no-map, its-map}
+use Rattle.keyrow.proofs.View.{row-held, row-conflict}
 use Rattle.ask.proofs.count.Statement.{statement}
 use Rattle.ask.proofs.count.Tie as tie
 
@@ -20,8 +21,8 @@ returns-2 c =
     let r = d .before in
     sym (ap countOf (its-map _ _ (r .row-of .ensures .1) _ (r .row-of .ensures .0) (d .if1 .left) .1 ∙ row-conflict (now (r .row-of .result)) (c .if2 .taken)))
 
-shared-slice-read-n-of : tie.Need-shared-slice-read-n-of
-shared-slice-read-n-of c =
+shared-slice-read-head : tie.Need-shared-slice-read-head-of
+shared-slice-read-head c =
     let d = c .before .before .before in
     let r = d .before in
     omega (arith, its-map _ _ (r .row-of .ensures .1) _ (r .row-of .ensures .0) (d .if1 .left) .0)
@@ -31,7 +32,7 @@ returns-3 c =
     let s = c .before .before in
     let d = s .before .before in
     let r = d .before in
-    c .n-of .ensures ∙ sym (ap countOf (its-map _ _ (r .row-of .ensures .1) _ (r .row-of .ensures .0) (d .if1 .left) .1 ∙ row-held (now (r .row-of .result)) (s .if2 .left)))
+    ap (λ (h : Head). h .n) (c .head-of .ensures) ∙ sym (ap countOf (its-map _ _ (r .row-of .ensures .1) _ (r .row-of .ensures .0) (d .if1 .left) .1 ∙ row-held (now (r .row-of .result)) (s .if2 .left)))
 
 pub count-spec : {M : Type 1} → statement M
-count-spec = tie.close (tie.spec (λ c κs. search needs) returns (λ c. search needs) returns-2 shared-slice-read-n-of (λ c κs. search needs) returns-3)
+count-spec = tie.close (tie.spec (λ c κs. search needs) returns (λ c. search needs) returns-2 shared-slice-read-head (λ c κs. search needs) returns-3)

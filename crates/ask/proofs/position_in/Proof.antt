@@ -7,7 +7,7 @@ use borrow.Author.Needs.{needs}
 use borrow.Author.Tests.{eq-eqb, ne-eqb}
 use lib.Dec.{eqb}
 use lib.ListN.{getD}
-use Rattle.maps.proofs.Search.{None, hit, miss}
+use Rattle.words.proofs.Lowest.{None, hit, miss}
 use Rattle.ask.proofs.position_in.Statement.{statement}
 use Rattle.ask.proofs.position_in.Tie as tie
 

@@ -5,11 +5,9 @@ use mathlib.Core.Path.{sym, ap, _∙_}
 use native.Mathlib.Omega.{arith}
 use borrow.Author.Needs.{needs}
 use denote.Ref.{now}
-use lib.ListN.{length, length-map}
-use Rattle.rows.specs.declared.Row.{Row}
-use Rattle.rows.specs.Rows.{rowsOf}
+use lib.ListN.{length}
 use Rattle.dictionary.specs.Dictionary.{foundRow}
-use Rattle.dictionary.proofs.Lookup.{looked, at-found, at-none, rows-at}
+use Rattle.dictionary.proofs.Table.{number-some, number-none, lent-size, lent-at}
 use Rattle.dictionary.proofs.width_in.Statement.{statement}
 use Rattle.dictionary.proofs.width_in.Tie as tie
 
@@ -18,22 +16,19 @@ here : (c : tie.After-known-told) → c .before .found .given .0 .0 < length (no
 unfolding foundRow
 here c =
     let b = c .before in
-    let ps = now (b .before .before .before .args .rows) in
-    rw length-map at (at-found (looked (rowsOf ps) _) (sym (ap foundRow (sym (b .found .given .1)) ∙ b .before .before .row-in .ensures)) .0)
+    let f = number-some _ _ (ap foundRow (sym (b .found .given .1)) ∙ b .before .before .row-in .ensures) in
+    omega (arith, lent-size _ (b .before .before .before .pre), f .0)
 
 returns : tie.Need-returns
 unfolding foundRow
 returns c =
     let b = c .before .before in
-    let ps = now (b .before .before .before .args .rows) in
-    sym (ap (λ (r : Row). r .width) (rows-at ps (b .found .given .0 .0)))
-    ∙ sym (at-found (looked (rowsOf ps) _) (sym (ap foundRow (sym (b .found .given .1)) ∙ b .before .before .row-in .ensures)) .2)
+    let f = number-some _ _ (ap foundRow (sym (b .found .given .1)) ∙ b .before .before .row-in .ensures) in
+    lent-at _ (b .before .before .before .pre) _ .1 ∙ sym (f .2)
 
 returns-2 : tie.Need-returns-2
 unfolding foundRow
-returns-2 c =
-    let ps = now (c .before .before .before .args .rows) in
-    sym (at-none (looked (rowsOf ps) _) (sym (ap foundRow (sym (c .enum-told .given .1)) ∙ c .before .before .row-in .ensures)) .1)
+returns-2 c = sym (number-none _ (ap foundRow (sym (c .enum-told .given .1)) ∙ c .before .before .row-in .ensures) .1)
 
 pub width-in-spec : {M : Type 1} → statement M
 width-in-spec =

@@ -5,7 +5,8 @@ use mathlib.Core.Path.{refl, sym, ap, _∙_}
 use borrow.Author.Tests.{eqb-false}
 use Rattle.frame.specs.declared.Fields.{Fields}
 use Rattle.frame.specs.Frame.{fieldsOf}
-use Rattle.message.specs.Message.{wireOf, firstOf, frameTests, heard}
+use Rattle.message.specs.Message.{wireOf, frameTests, heard}
+use Rattle.answers.specs.Tests.{firstOf}
 use Rattle.message.proofs.Tests.{refused-at-once}
 use Rattle.table.proofs.Frames.{refused}
 use borrow.Author.Needs.{needs}

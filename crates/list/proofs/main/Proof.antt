@@ -6,12 +6,12 @@ use Rattle.list.proofs.main.Statement.{statement}
 use Rattle.list.proofs.main.Tie as tie
 
 abbrev Inv-loop : tie.InvT-loop
-Inv-loop t₀ tally₀ more₀ turns₀ t tally more turns = Unit {0}
+Inv-loop t₀ tally₀ more₀ whole₀ turns₀ t tally more whole turns = Unit {0}
 
 abbrev μ-loop : tie.MeasureT-loop
-μ-loop t₀ tally₀ more₀ turns₀ t tally more turns = turns
+μ-loop t₀ tally₀ more₀ whole₀ turns₀ t tally more whole turns = turns
 
 pub main-spec : {M : Type 1} → statement M
 main-spec =
     tie.close
-    (tie.spec Inv-loop μ-loop (λ c κs. search needs) (λ c κs. search needs) (λ c. tt) (λ c κs. search needs) (λ c. omega arith) (λ c. omega arith) (λ c. tt) (λ c κs. search needs) (λ c. search needs))
+    (tie.spec Inv-loop μ-loop (λ c κs. search needs) (λ c κs. search needs) (λ c. tt) (λ c κs. search needs) (λ c. omega arith) (λ c. omega arith) (λ c. tt) (λ c κs. search needs) (λ c κs. search needs) (λ c. search needs))

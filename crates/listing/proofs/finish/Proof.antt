@@ -15,12 +15,12 @@ use Rattle.listing.proofs.finish.Statement.{statement}
 use Rattle.listing.proofs.finish.Tie as tie
 
 -- what the page holds once the listing is laid into it
-module _ (c : tie.After-put-all) where
+module _ (c : tie.After-put-listing) where
   abbrev n : ℕ
-  n = c .put-all .result
+  n = c .put-listing .result
 
-  holds : Holds 512 (page n (c .put-all .last .1 .1 .0)) (pageOf (c .before .before .before .args .t .now) (c .before .before .before .args .s))
-  holds = filled (c .before .before .before .args .t .now) (c .before .before .before .args .s) _ _ (search needs) (c .put-all .ensures)
+  holds : Holds 512 (page n (c .put-listing .last .1 .1 .0)) (pageOf (c .before .before .before .args .t .now) (c .before .before .before .args .s))
+  holds = filled (c .before .before .before .args .t .now) (c .before .before .before .args .s) _ _ (search needs) (c .put-listing .ensures)
 
   small : n ≤ 512
   small = omega (arith, holds .next, enough (c .before .before .before .args .t .now) (c .before .before .before .args .s))

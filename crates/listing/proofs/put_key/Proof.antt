@@ -1,5 +1,5 @@
 -- `put_key`: the numbers of the line are those of the key's map. Assumes nothing.
-use Rattle.table.specs.View.{mapIn}
+use Rattle.lookup.specs.View.{mapIn}
 use Rattle.listing.proofs.KeyLine.{line-laid}
 use borrow.Author.Needs.{needs}
 use Rattle.listing.proofs.put_key.Statement.{statement}

@@ -4,12 +4,11 @@ use mathlib.Core.Path.{_≡_, refl, ap, _∙_}
 use mathlib.Core.Option.{Option}
 use native.Mathlib.Omega.{arith}
 use lib.ListN.{length}
-use Rattle.text.specs.Text.{page}
+use Rattle.text.specs.Text.{page, putAll}
 use Rattle.message.specs.declared.Key.{Key}
-use Rattle.table.specs.View.{mapIn}
-use Rattle.table.specs.Next.{keyFound, walk, heldKeys}
+use Rattle.lookup.specs.View.{mapIn}
+use Rattle.lookup.specs.Next.{keyFound, walk, heldKeys}
 use Rattle.listing.specs.Lines.{keyLines}
-use Rattle.listing.specs.Page.{laidAll}
 use Rattle.listing.proofs.Pieces.{turn, stop, done}
 use borrow.Author.Needs.{needs}
 use Rattle.listing.proofs.put_keys.Statement.{statement}
@@ -19,7 +18,7 @@ abbrev Inv-loop : tie.InvT-loop
 Inv-loop t out₀ at place₀ next₀ i₀ out place next i =
     (i ≤ 16)
     × (length out ≡ length out₀)
-    × (laidAll (page place out) (keyLines (mapIn t) (walk (16 - i) t (keyFound next))) ≡ laidAll (page at out₀) (keyLines (mapIn t) (heldKeys t)))
+    × (putAll (page place out) (keyLines (mapIn t) (walk (16 - i) t (keyFound next))) ≡ putAll (page at out₀) (keyLines (mapIn t) (heldKeys t)))
 
 abbrev μ-loop : tie.MeasureT-loop
 μ-loop t out₀ at place₀ next₀ i₀ out place next i = 16 - i
@@ -27,7 +26,7 @@ abbrev μ-loop : tie.MeasureT-loop
 loop-holds : tie.Need-loop-holds Inv-loop μ-loop
 loop-holds c =
     let a = c .before .before .args in
-    (omega arith, refl, ap (λ (k : Option Key). laidAll (page (a .at) (a .out .now)) (keyLines (mapIn (a .t .now)) (walk 16 (a .t .now) k))) (c .first-key .ensures))
+    (omega arith, refl, ap (λ (k : Option Key). putAll (page (a .at) (a .out .now)) (keyLines (mapIn (a .t .now)) (walk 16 (a .t .now) k))) (c .first-key .ensures))
 
 returns : tie.Need-returns Inv-loop μ-loop
 returns c =

@@ -1,6 +1,6 @@
 -- `put_last`: a name, and four numbers with what stands behind each. Assumes nothing.
 use Rattle.listing.specs.Lines.{lastLine}
-use Rattle.listing.proofs.Pieces.{follow, one-piece}
+use Rattle.text.proofs.Pieces.{follow, one-piece}
 use borrow.Author.Needs.{needs}
 use Rattle.listing.proofs.put_last.Statement.{statement}
 use Rattle.listing.proofs.put_last.Tie as tie

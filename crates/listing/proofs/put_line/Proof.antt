@@ -1,5 +1,5 @@
 -- `put_line`: six numbers, one after the other. Assumes nothing.
-use Rattle.listing.proofs.Pieces.{follow}
+use Rattle.text.proofs.Pieces.{follow}
 use borrow.Author.Needs.{needs}
 use Rattle.listing.proofs.put_line.Statement.{statement}
 use Rattle.listing.proofs.put_line.Tie as tie

@@ -4,7 +4,8 @@ use mathlib.Core.Path.{sym, ap, ap₂, _∙_}
 use Rattle.frame.specs.declared.Fields.{Fields}
 use Rattle.frame.specs.Frame.{fieldsOf}
 use Rattle.message.specs.declared.Wire.{Wire}
-use Rattle.message.specs.Message.{wireOf, firstOf, frameTests, dataTests, heardFrom, heard}
+use Rattle.message.specs.Message.{wireOf, frameTests, dataTests, heardFrom, heard}
+use Rattle.answers.specs.Tests.{firstOf}
 use Rattle.message.proofs.Tests.{read-on, refused-at-once}
 use borrow.Author.Needs.{needs}
 use Rattle.message.proofs.decode.Statement.{statement}

@@ -3,13 +3,10 @@ use mathlib.Core.Path.{ap, _∙_}
 use native.Mathlib.Omega.{arith}
 use denote.Ref.{now}
 use borrow.Author.Needs.{needs}
-use Rattle.payload.specs.Place.{bytesFor, sizeOf}
-use Rattle.payload.proofs.Placed.{placed-widths, size-most}
+use Rattle.places.specs.Place.{bytesFor, sizeOf}
+use Rattle.places.proofs.Placed.{size-most}
 use Rattle.payload.proofs.map_size.Statement.{statement}
 use Rattle.payload.proofs.map_size.Tie as tie
-
-largest-end-requires : tie.Need-largest-end-requires
-largest-end-requires c κs = let s = c .before .before in placed-widths (now (s .args .starts)) (now (s .args .widths)) (s .pre)
 
 returns : tie.Need-returns
 unfolding sizeOf
@@ -19,4 +16,4 @@ returns c =
     (e, omega (arith, e, size-most (now (s .args .starts)) (now (s .args .widths)) (s .pre)))
 
 pub map-size-spec : {M : Type 1} → statement M
-map-size-spec = tie.close (tie.spec largest-end-requires (λ c κs. search needs) returns)
+map-size-spec = tie.close (tie.spec (λ c κs. search needs) (λ c κs. search needs) returns)

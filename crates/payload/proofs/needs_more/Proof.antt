@@ -5,7 +5,7 @@ use borrow.Author.Needs.{needs}
 use borrow.Author.Tests.{lt-leb}
 use lib.Pow.{pow-mono}
 use Rattle.payload.specs.Calls.{needsMore}
-use Rattle.payload.proofs.Placed.{more-by-shift}
+use Rattle.payload.proofs.Fit.{more-by-shift}
 use Rattle.payload.proofs.needs_more.Statement.{statement}
 use Rattle.payload.proofs.needs_more.Tie as tie
 

@@ -6,10 +6,10 @@ use native.Mathlib.Omega.{arith}
 use denote.Ref.{now}
 use lib.ListN.{length, drop, length-set}
 use borrow.Author.Needs.{needs}
-use Rattle.payload.specs.Bits.{tabulate}
-use Rattle.payload.proofs.Placed.{placed-widths, placed-in}
-use Rattle.payload.proofs.Bits.{write-more}
-use Rattle.payload.proofs.Laws.{readAt, read-end}
+use Rattle.words.specs.Lists.{tabulate}
+use Rattle.words.proofs.Lists.{write-more}
+use Rattle.places.proofs.Placed.{placed-widths}
+use Rattle.payload.proofs.Turns.{read-turn, readAt, read-end}
 use Rattle.payload.proofs.read_into.Statement.{statement}
 use Rattle.payload.proofs.read_into.Tie as tie
 
@@ -23,23 +23,18 @@ abbrev μ-loop : tie.MeasureT-loop
 
 loop-holds : tie.Need-loop-holds Inv-loop μ-loop
 unfolding tabulate
-loop-holds c = (search needs, let a = c .before .before .before .before in placed-widths (now (a .args .starts)) (now (a .args .widths)) (a .pre .0), refl, refl)
-
-get-requires : tie.Need-get-requires Inv-loop μ-loop
-get-requires c κs =
-    let l = c .before .before .before in
-    let s = l .before .before .before .before .before in
-    omega (arith, placed-in (now (s .args .starts)) (now (s .args .widths)) (s .pre .0) (l .loop .i) (omega arith), s .pre .2)
+loop-holds c = let a = c .before .before .before .before in (search needs, placed-widths (now (a .args .starts)) (now (a .args .widths)) (a .pre .0), refl, refl)
 
 loop-again : tie.Need-loop-again Inv-loop μ-loop
-loop-again c = (
-  search needs,
-  search needs,
-  simp length-set (search needs),
-  let l = c .before .before .before .before in
-      let a = l .before .before .before .before .before .args in
-      rw (l .loop .inv .3, c .get .ensures) (write-more (readAt (now (a .starts)) (now (a .widths)) (now (a .payload))) (l .loop .i) (now (a .room)) (omega arith)),
-)
+loop-again c =
+    let l = c .before .before .before .before in
+    let a = l .before .before .before .before .before in (
+      search needs,
+      search needs,
+      simp length-set (search needs),
+      rw (l .loop .inv .3, read-turn (now (a .args .starts)) (now (a .args .widths)) (a .pre .0) (l .loop .i) (omega arith) (now (a .args .payload)) (c .get .result) (a .pre .2) (c .get .ensures))
+          (write-more (readAt (now (a .args .starts)) (now (a .args .widths)) (now (a .args .payload))) (l .loop .i) (now (a .args .room)) (omega arith)),
+    )
 
 returns : tie.Need-returns Inv-loop μ-loop
 returns c =
@@ -51,5 +46,5 @@ pub read-into-spec : {M : Type 1} → statement M
 read-into-spec =
     tie.close
     (tie.spec Inv-loop μ-loop loop-holds (λ c. search needs) (λ c. search needs) (λ c. search needs) (λ c. search needs)
-    get-requires (λ c. search needs) (λ c. search needs) (λ c. search needs) (λ c. search needs) loop-again
+    (λ c κs. search needs) (λ c. search needs) (λ c. search needs) (λ c. search needs) (λ c. search needs) loop-again
     (λ c. search needs) returns)

@@ -1,7 +1,7 @@
 -- `rows::all` meets its contract: the code's pairs of numbers are the definition's rows.
 -- Assumes nothing.
 use mathlib.Core.Path.{refl}
-use Rattle.rows.specs.Rows.{table, pairs}
+use Rattle.rowrule.specs.Rows.{table, pairs}
 use Rattle.rows.proofs.all.Statement.{statement}
 use Rattle.rows.proofs.all.Tie as tie
 

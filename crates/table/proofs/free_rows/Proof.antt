@@ -1,3 +1,4 @@
+-- `free_rows`: of the rows below i every one is freed that held the key. Assumes nothing.
 use mathlib.Core.Path.{_≡_, refl, ap, _∙_}
 use mathlib.Core.List.{List}
 use Prim.Native.Nat.{ℕ, _*_, _≤_, _-_}
@@ -6,13 +7,12 @@ use native.Mathlib.Omega.{arith}
 use borrow.Author.Needs.{needs}
 use lib.ListN.{length, length-set, set}
 use Rattle.history.specs.History.{mostKeys}
-use Rattle.table.specs.Layout.{rowWords}
+use Rattle.keyrow.specs.Row.{rowWords}
 use Rattle.table.specs.Forget.{freeRow, freeTo}
 use Rattle.table.proofs.Words.{free-word}
 use Rattle.table.proofs.free_rows.Statement.{statement}
 use Rattle.table.proofs.free_rows.Tie as tie
 
--- of the rows below i every one is freed that held the key
 abbrev Inv-loop : tie.InvT-loop
 Inv-loop t₀ key i₀ t i = (i ≤ mostKeys) × ((t ≡ freeTo t₀ key i) × (length t ≡ length t₀))
 

@@ -1,15 +1,15 @@
+-- `learn`: a refusal leaves the words; a message is learned, and has its place in a row. Assumes nothing.
 use mathlib.Core.Path.{sym, ap, _∙_}
+use borrow.Author.Needs.{needs}
 use Rattle.message.specs.Message.{heardOf}
 use Rattle.table.proofs.Frames.{refused, taken, storable}
-use borrow.Author.Needs.{needs}
 use Rattle.table.proofs.learn.Statement.{statement}
 use Rattle.table.proofs.learn.Tie as tie
 
 learn-message-requires : tie.Need-learn-message-requires
 learn-message-requires c κs =
     let a = c .before .before .before .before .before .args in
-    let e = ap heardOf (sym (c .before .before .m .given .1)) ∙ c .before .before .before .before .decode .ensures in
-    (search needs, storable (a .id) (a .len) (a .d .now) _ e)
+    storable (a .id) (a .len) (a .d .now) _ (ap heardOf (sym (c .before .before .m .given .1)) ∙ c .before .before .before .before .decode .ensures)
 
 returns : tie.Need-returns
 returns c =

@@ -1,0 +1,30 @@
+-- What the private functions of this room promise. Assumes nothing.
+use Prim.Native.Nat.{ℕ}
+use mathlib.Core.Bool.{cond, _&&_}
+use mathlib.Core.List.{List}
+use lib.Dec.{eqb, leb}
+use Rattle.answers.specs.Answers.{Said, plain, at, unusable, detailed, done, Outcome, outcome}
+use Rattle.payload.specs.declared.Laying.{Laying}
+use Rattle.payload.specs.declared.Laying.the-variants.{Done, Unplaced, Length, TooWide}
+use Rattle.payload.specs.Calls.{Left}
+use Rattle.keyrow.specs.Row.{positions, stateWord, cellWord}
+
+-- what judging answered, as the tests 11 and 12 go by it: 0 where the map is usable
+unfoldable pub readyBy : Said → Said
+readyBy a = cond (eqb (a .number) 0) (cond (eqb (a .judgement) 0) (plain 0) (unusable (at (a .judgement) (a .position)))) a
+
+-- the cell of a position, and 0, where nothing stands, in conflict and outside 1 to 64
+unfoldable pub cellAt : List ℕ → ℕ → ℕ
+cellAt row p = cond (eqb (stateWord row) 1 && (leb 1 p && leb p positions)) (cellWord row p) 0
+
+-- 01's answer for each of payload's cases. Of a map with the dictionary's widths a position has no place where its parameter ends beyond bit 14,280, judgement 7;
+-- a usable map has no such position (law usable-placed)
+abbrev pub saidBy : Laying → Said
+saidBy (Done d) = done d
+saidBy (Unplaced p) = unusable (at 7 p)
+saidBy Length = plain 13
+saidBy (TooWide p) = detailed 14 p
+
+-- what payload's calls leave, as an outcome of a call of 01
+abbrev pub asOutcome : Left → Outcome
+asOutcome l = outcome (saidBy (l .laying)) (l .buffer)

@@ -1,0 +1,4 @@
+pub mod Bits
+pub mod After
+pub mod Run
+pub mod Number

@@ -1,0 +1,47 @@
+-- What C gets and keeps is read one to one: same reading, same value, so that a promise about the reading leaves no choice of what C gets.
+-- Assumes nothing.
+use mathlib.Core.Path.{_≡_, refl, ap}
+use mathlib.Core.Option.{Option, none, some}
+use native.Mathlib.Omega.{arith}
+use Rattle.answers.specs.declared.Answer.{Answer}
+use Rattle.answers.proofs.Cases.{same-answer}
+use Rattle.message.specs.declared.Key.{Key}
+use Rattle.ask.specs.Ask.{Finding, Standing}
+use Rattle.firmware.specs.declared.Told.{Told}
+use Rattle.firmware.specs.declared.Held.{Held}
+use Rattle.firmware.specs.declared.Located.{Located}
+use Rattle.firmware.specs.declared.Log.{Log}
+use Rattle.firmware.specs.declared.Placed.{Placed}
+use Rattle.firmware.specs.Told.{saidTo, toldOf, findingTo, standingTo, heldOf, tallyIn}
+
+-- one answer in 01's numbers, one struct
+pub same-told : (a b : Told) → saidTo a ≡ saidTo b → a ≡ b
+same-told a b e = λ i. record { number = e i .number; detail = e i .detail; judgement = e i .judgement; position = e i .position }
+
+-- one struct, one answer of the rooms below
+pub same-in-c : (a b : Answer) → toldOf a ≡ toldOf b → a ≡ b
+same-in-c a b e = same-answer a b (ap saidTo e)
+
+-- one finding, one struct
+pub same-located : (a b : Located) → findingTo a ≡ findingTo b → a ≡ b
+same-located a b e =
+    let t = same-told (a .told) (b .told) (ap (λ (f : Finding). f .answer) e) in
+    λ i. record { told = t i; position = e i .position; start = e i .start; width = e i .width }
+
+-- one parameter at a position, one struct
+pub same-standing : (a b : Placed) → standingTo a ≡ standingTo b → a ≡ b
+same-standing a b e =
+    let t = same-told (a .told) (b .told) (ap (λ (p : Standing). p .answer) e) in
+    λ i. record { told = t i; spn = e i .spn; start = e i .start; width = e i .width }
+
+-- one struct, one key or none
+pub same-held : (a b : Option Key) → heldOf a ≡ heldOf b → a ≡ b
+same-held none none e = refl
+same-held none (some k) e = let z = ap (λ (h : Held). h .held) e in absurd (omega arith)
+same-held (some j) none e = let z = ap (λ (h : Held). h .held) e in absurd (omega arith)
+same-held (some j) (some k) e = λ i. some (record { source = e i .source; destination = e i .destination; k = e i .k })
+
+-- one tally, one log that C keeps
+pub same-log : (a b : Log) → tallyIn a ≡ tallyIn b → a ≡ b
+same-log a b e =
+    λ i. record { records = e i .counts .records; refused = e i .counts .refused; other = e i .counts .other; left = e i .left; carry = e i .carry }

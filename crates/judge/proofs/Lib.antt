@@ -1,0 +1,7 @@
+pub mod Rules
+pub mod Within
+pub mod Exactly
+pub mod Judged
+pub mod Search
+pub mod Slices
+pub mod Learned

@@ -1,0 +1,247 @@
+// Judging a map that stands in plain slices of SPNs, starts and widths (01, "A set and its judgement"). The slices may have any length and
+// hold anything; what they stand for is `inSlices`. In each search the count says what holds of the positions that were passed.
+ghost use mathlib.Core.Path.{_≡_};
+ghost use Prim.Native.Nat.{_≤_, _<_, min, max};
+ghost use lib.Dec.{ltb};
+ghost use lib.ListN.{length};
+ghost use Rattle.answers.specs.Answers.{saidOf};
+ghost use Rattle.words.specs.First.{lowest};
+ghost use Rattle.places.specs.Place.{sharesBit, endIn, endTo};
+ghost use Rattle.judge.specs.Judge.{numberAt, shortest as shortestOf, marked, unknown, repeated, notAbove, overlaps, beyond, wrongTransport, judgeOver, inSlices};
+use answers::Judgement;
+
+// The width that says "nothing stands at this position".
+pub const MISSING: u32 = 0xffff_ffff;
+
+// The smaller of two numbers.
+fn smaller(a: usize, b: usize) -> usize
+    ensures { λ r. ⌜ r ≡ min a b ⌝ }
+{
+    if a < b { a } else { b }
+}
+
+// The larger of two numbers.
+fn larger(a: u64, b: u64) -> u64
+    ensures { λ r. ⌜ r ≡ max a b ⌝ }
+{
+    if a < b { b } else { a }
+}
+
+// How many positions all three slices have.
+fn shortest(spns: &[u32], starts: &[u32], widths: &[u32]) -> usize
+    ensures { λ r. ⌜ r ≡ shortestOf (now (spns .entry)) (now (starts .entry)) (now (widths .entry)) ⌝ }
+{
+    smaller(spns.len(), smaller(starts.len(), widths.len()))
+}
+
+// What stands at index i.
+fn number_at(s: &[u32], i: u8) -> u32
+    requires { ⌜ i < length (now s) ⌝ }
+    ensures { λ r. ⌜ r ≡ numberAt (now (s .entry)) i ⌝ }
+{
+    s[i as usize]
+}
+
+// Whether nothing stands at index i: a slice ends before it, or the widths have the mark there.
+fn is_missing(long: usize, widths: &[u32], i: u8) -> bool
+    requires { ⌜ long ≤ length (now widths) ⌝ }
+    ensures { λ r. ⌜ r ≡ marked long (now (widths .entry)) i ⌝ }
+{
+    if long <= i as usize {
+        return true;
+    }
+    number_at(widths, i) == MISSING
+}
+
+// The lowest position that is missing, or 0.
+fn lowest_missing(n: u8, spns: &[u32], starts: &[u32], widths: &[u32]) -> u8
+    ensures { λ r. ⌜ r ≡ lowest (marked (shortestOf (now (spns .entry)) (now (starts .entry)) (now (widths .entry))) (now (widths .entry))) n ⌝ }
+{
+    let long = shortest(spns, starts, widths);
+    let mut there = 0;
+    while there < n {
+        if is_missing(long, widths, there) {
+            return there + 1;
+        }
+        there += 1;
+    }
+    0
+}
+
+// The lowest position whose SPN is not in the dictionary, or 0.
+fn lowest_unknown(n: u8, widths: &[u32]) -> u8
+    requires { ⌜ n ≤ length (now widths) ⌝ }
+    ensures { λ r. ⌜ r ≡ lowest (unknown (numberAt (now (widths .entry)))) n ⌝ }
+{
+    let mut known = 0;
+    while known < n {
+        if number_at(widths, known) == 0 {
+            return known + 1;
+        }
+        known += 1;
+    }
+    0
+}
+
+// Whether the SPN at index i stands at a lower one too.
+fn is_repeated(spns: &[u32], i: u8) -> bool
+    requires { ⌜ i < length (now spns) ⌝ }
+    ensures { λ r. ⌜ r ≡ repeated (numberAt (now (spns .entry))) i ⌝ }
+{
+    let spn = number_at(spns, i);
+    let mut others = 0;
+    while others < i {
+        if number_at(spns, others) == spn {
+            return true;
+        }
+        others += 1;
+    }
+    false
+}
+
+// The lowest position whose SPN stands at a lower one too, or 0.
+fn lowest_repeated(n: u8, spns: &[u32]) -> u8
+    requires { ⌜ n ≤ length (now spns) ⌝ }
+    ensures { λ r. ⌜ r ≡ lowest (repeated (numberAt (now (spns .entry)))) n ⌝ }
+{
+    let mut different = 0;
+    while different < n {
+        if is_repeated(spns, different) {
+            return different + 1;
+        }
+        different += 1;
+    }
+    0
+}
+
+// The lowest position whose start is not above the one before, or 0.
+fn lowest_not_above(n: u8, starts: &[u32]) -> u8
+    requires { ⌜ n ≤ length (now starts) ⌝ }
+    ensures { λ r. ⌜ r ≡ lowest (notAbove (numberAt (now (starts .entry)))) n ⌝ }
+{
+    let mut rising = 1;
+    while rising < n {
+        if number_at(starts, rising) <= number_at(starts, rising - 1) {
+            return rising + 1;
+        }
+        rising += 1;
+    }
+    0
+}
+
+// Whether the parameters at indices i and j share a bit.
+fn share(starts: &[u32], widths: &[u32], i: u8, j: u8) -> bool
+    requires { ⌜ (i < length (now starts)) × (i < length (now widths)) × (j < length (now starts)) × (j < length (now widths)) ⌝ }
+    ensures { λ r. ⌜ r ≡ sharesBit (numberAt (now (starts .entry)) i) (numberAt (now (widths .entry)) i)
+        (numberAt (now (starts .entry)) j) (numberAt (now (widths .entry)) j) ⌝ }
+{
+    places::shares(
+        number_at(starts, i),
+        number_at(widths, i),
+        number_at(starts, j),
+        number_at(widths, j),
+    )
+}
+
+// The lowest position that shares a bit with an earlier one, or 0. Where starts rise and all widths are known, to look at the one before is enough.
+fn lowest_overlap(n: u8, starts: &[u32], widths: &[u32]) -> u8
+    requires { ⌜ (n ≤ length (now starts)) × (n ≤ length (now widths)) × (lowest (unknown (numberAt (now widths))) n ≡ 0)
+        × (lowest (notAbove (numberAt (now starts))) n ≡ 0) ⌝ }
+    ensures { λ r. ⌜ r ≡ lowest (overlaps (numberAt (now (starts .entry))) (numberAt (now (widths .entry)))) n ⌝ }
+{
+    let mut apart = 1;
+    while apart < n {
+        if share(starts, widths, apart - 1, apart) {
+            return apart + 1;
+        }
+        apart += 1;
+    }
+    0
+}
+
+// The end of the parameter at index i: 01's start + width.
+fn end_at(starts: &[u32], widths: &[u32], i: u8) -> u64
+    requires { ⌜ (i < length (now starts)) × (i < length (now widths)) ⌝ }
+    ensures { λ r. ⌜ r ≡ endIn (now (starts .entry)) (now (widths .entry)) i ⌝ }
+{
+    places::end_bit(number_at(starts, i), number_at(widths, i))
+}
+
+// Whether an end is above 14,280.
+fn is_beyond(end: u64) -> bool
+    ensures { λ r. ⌜ r ≡ ltb 14280 end ⌝ }
+{
+    14280 < end
+}
+
+// The lowest position whose end is above 14,280, or 0.
+fn lowest_beyond(n: u8, starts: &[u32], widths: &[u32]) -> u8
+    requires { ⌜ (n ≤ length (now starts)) × (n ≤ length (now widths)) ⌝ }
+    ensures { λ r. ⌜ r ≡ lowest (beyond (numberAt (now (starts .entry))) (numberAt (now (widths .entry)))) n ⌝ }
+{
+    let mut within = 0;
+    while within < n {
+        if is_beyond(end_at(starts, widths, within)) {
+            return within + 1;
+        }
+        within += 1;
+    }
+    0
+}
+
+// The largest end of the first n parameters.
+fn largest_end(n: u8, starts: &[u32], widths: &[u32]) -> u64
+    requires { ⌜ (n ≤ length (now starts)) × (n ≤ length (now widths)) ⌝ }
+    ensures { λ r. ⌜ r ≡ endTo (now (starts .entry)) (now (widths .entry)) n ⌝ }
+{
+    let mut largest = 0;
+    let mut i = 0;
+    while i < n {
+        largest = larger(largest, end_at(starts, widths, i));
+        i += 1;
+    }
+    largest
+}
+
+// Whether the transport flag is yes with a payload of 8 bytes, or no with a longer one.
+fn is_wrong_transport(transport: bool, bytes: u64) -> bool
+    ensures { λ r. ⌜ r ≡ wrongTransport transport bytes ⌝ }
+{
+    if transport { bytes == 8 } else { 8 < bytes }
+}
+
+// The judgement of n parameters: the first rule of 01's list that applies, with its lowest position. No rule after it is tried. The largest end is asked
+// for once: which position is beyond 14,280 is looked for only where it is.
+pub fn judge(n: u8, transport: bool, spns: &[u32], starts: &[u32], widths: &[u32]) -> Judgement
+    ensures { λ r. ⌜ saidOf r ≡ judgeOver n transport (inSlices (now (spns .entry)) (now (starts .entry)) (now (widths .entry))) ⌝ }
+{
+    let missing = lowest_missing(n, spns, starts, widths);
+    if missing != 0 {
+        return Judgement::Missing(missing);
+    }
+    let unknown = lowest_unknown(n, widths);
+    if unknown != 0 {
+        return Judgement::Unknown(unknown);
+    }
+    let repeated = lowest_repeated(n, spns);
+    if repeated != 0 {
+        return Judgement::Repeated(repeated);
+    }
+    let not_above = lowest_not_above(n, starts);
+    if not_above != 0 {
+        return Judgement::NotAbove(not_above);
+    }
+    let overlap = lowest_overlap(n, starts, widths);
+    if overlap != 0 {
+        return Judgement::Overlaps(overlap);
+    }
+    let end = largest_end(n, starts, widths);
+    if is_beyond(end) {
+        let beyond = lowest_beyond(n, starts, widths);
+        return Judgement::Beyond(beyond);
+    }
+    if is_wrong_transport(transport, places::bytes_for(end)) {
+        return Judgement::Transport;
+    }
+    Judgement::Usable
+}

@@ -1,0 +1,2 @@
+pub mod RowKeys
+pub mod View

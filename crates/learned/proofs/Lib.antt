@@ -1,0 +1,16 @@
+pub mod RowSteps
+pub mod RowMaps
+pub mod KeyNumbers
+pub mod View
+pub mod Learning
+pub mod Forgetting
+pub mod Refusals
+pub mod Rows
+pub mod Rising
+pub mod Walk
+pub mod Sane
+pub mod Count
+pub mod Events
+pub mod Frames
+pub mod Histories
+pub mod Theorem

@@ -1,0 +1,5 @@
+pub mod Words
+pub mod Slots
+pub mod KeyRow
+pub mod Lowest
+pub mod Readings

@@ -1,0 +1,4 @@
+pub mod Meet
+pub mod Place
+pub mod Placed
+pub mod Previous

@@ -1,0 +1,63 @@
+/* Every call, enumerator and struct of include/yendrolf.h, used as its reader would: C99 and C++11, no cast. tests/header compiles it with all warnings. */
+#include "../include/yendrolf.h"
+#include "../include/yendrolf.h"   /* twice does no harm */
+
+static yendrolf_box box;
+
+static uint32_t answer_or_judgement(yendrolf_told told)
+{
+    switch (told.number) {
+    case YENDROLF_DONE: return told.detail;
+    case YENDROLF_BAD_IDENTIFIER: case YENDROLF_OTHER_PGN: case YENDROLF_BAD_LENGTH: case YENDROLF_BAD_SOURCE: case YENDROLF_NOT_CONFIGURABLE:
+    case YENDROLF_BAD_FLAG: case YENDROLF_BAD_POSITION: case YENDROLF_BAD_START: case YENDROLF_TABLE_FULL: case YENDROLF_CONTRADICTED:
+    case YENDROLF_NOT_HELD: case YENDROLF_BAD_BUFFER: case YENDROLF_TOO_WIDE: case YENDROLF_BAD_PORTS: case YENDROLF_LIST_FULL: case YENDROLF_BAD_PGN:
+    case YENDROLF_NOT_LISTED: case YENDROLF_BAD_MODE: case YENDROLF_LIST_NOT_EMPTY: return told.number;
+    case YENDROLF_NOT_USABLE: break;
+    default: return 0;
+    }
+    switch (told.judgement) {
+    case YENDROLF_USABLE: case YENDROLF_IN_CONFLICT: case YENDROLF_MISSING: case YENDROLF_UNKNOWN: case YENDROLF_REPEATED: case YENDROLF_NOT_ABOVE:
+    case YENDROLF_OVERLAPS: case YENDROLF_BEYOND: case YENDROLF_TRANSPORT: return told.position;
+    default: return 0;
+    }
+}
+
+int main(void)
+{
+    static const uint8_t data[YENDROLF_FRAME_BYTES] = { 0x00, 0xb1, 0x00, 0xed, 0x05, 0x01, 0x81, 1 };
+    static uint8_t payload[YENDROLF_MOST_BYTES], text[YENDROLF_LISTING_BYTES], record[YENDROLF_RECORD_BYTES];
+    static uint32_t numbers[YENDROLF_MOST_NUMBERS];
+    uint32_t sum = 0, held = 0;
+    yendrolf_log log = yendrolf_start_log();
+    if (yendrolf_version() != YENDROLF_VERSION)
+        return 1;
+    yendrolf_start(&box);
+    yendrolf_empty(&box);
+    yendrolf_fresh(&box);
+    sum += answer_or_judgement(yendrolf_learn(&box, 0x18b02726, YENDROLF_FRAME_BYTES, data));
+    for (yendrolf_key key = yendrolf_first_key(&box); key.held; key = yendrolf_next_key(&box, key.source, key.destination, key.k)) {
+        uint32_t n = yendrolf_count(&box, key.source, key.destination, key.k);   /* what a key has goes back in as it is */
+        yendrolf_told judged = yendrolf_judge(&box, key.source, key.destination, key.k);
+        yendrolf_told packed = yendrolf_pack(&box, key.source, key.destination, key.k, numbers, n, payload, sizeof payload);
+        yendrolf_told read = yendrolf_read(&box, key.source, key.destination, key.k, payload, packed.detail, numbers, YENDROLF_MOST_NUMBERS);
+        yendrolf_found found = yendrolf_find(&box, key.source, key.destination, key.k, 1517);
+        yendrolf_parameter parameter = yendrolf_parameter_at(&box, key.source, key.destination, key.k, 1);
+        if (parameter.told.number != YENDROLF_DONE || parameter.spn != 1517 || parameter.start != 0 || parameter.width != 8)
+            return 1;
+        sum += judged.judgement + answer_or_judgement(read) + found.told.number + found.position + found.start + found.width;
+        sum += answer_or_judgement(yendrolf_forget(&box, key.source, key.destination, key.k));
+        held++;
+    }
+    log = yendrolf_feed(&box, log, record, sizeof record);
+    sum += (uint32_t)(log.records + log.refused + log.other + log.left) + log.carry[0];
+    sum += answer_or_judgement(yendrolf_finish(&box, log, text, sizeof text));
+    sum += answer_or_judgement(yendrolf_add(&box, 1, YENDROLF_PORTS, 65251));
+    sum += answer_or_judgement(yendrolf_delete(&box, 1, YENDROLF_PORTS, 65251));
+    sum += answer_or_judgement(yendrolf_set_mode(&box, 1, 2, YENDROLF_BLOCK_ALL_BUT));
+    sum += answer_or_judgement(yendrolf_set_mode(&box, 1, 2, YENDROLF_PASS_ALL_BUT));
+    sum += answer_or_judgement(yendrolf_clear(&box, 1, 2));
+    yendrolf_told decided = yendrolf_decide(&box, 1, 2, 0x18fee300);
+    if (decided.number != YENDROLF_DONE || decided.detail == YENDROLF_BLOCK || decided.detail != YENDROLF_PASS)
+        return 1;
+    return held > YENDROLF_MOST_KEYS || sum == 0 || sizeof box != YENDROLF_BOX_BYTES || YENDROLF_MOST_LISTED > YENDROLF_STACK_BYTES;
+}
