@@ -150,6 +150,7 @@ static const struct test {
     { "parameter at a position of 8, C walks", 80000, WALKS(parameter) },
     { "decide, an empty list", 1600000, HALVES(decide0) },
     { "decide, a list of 32", 400000, HALVES(decide32) },
+    { "renew", 1600000, HALVES(renew) },
     { "feed, a record", 1000000, HALVES(feed) },
     { "finish, 16 keys", 800, HALVES(finish) },
     { "finish, 16 keys, C walks", 800, WALKS(finish) },

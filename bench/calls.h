@@ -113,6 +113,15 @@ MEASURED uint64_t TEST(decide32)(uint64_t n)
     return sum;
 }
 
+/* One in four names no mode. */
+MEASURED uint64_t TEST(renew)(uint64_t n)
+{
+    uint64_t sum = 0;
+    for (uint64_t i = 0; i < n; i++)
+        sum += CALL(filters_renew)(other_box.filters, (uint8_t)(1 + i % 4), (uint8_t)(1 + i / 4 % 4), (uint8_t)(i % 4 == 3 ? 2 : i % 2)).number;
+    return sum;
+}
+
 MEASURED uint64_t TEST(feed)(uint64_t n)
 {
     yendrolf_log log = CALL(start_log)();

@@ -28,8 +28,7 @@ yendrolf_told FAST(table_finish)(const uint64_t *table, yendrolf_log log, uint8_
 void FAST(filters_fresh)(uint32_t *filters);
 yendrolf_told FAST(filters_add)(uint32_t *filters, uint8_t from, uint8_t to, uint32_t pgn);
 yendrolf_told FAST(filters_delete)(uint32_t *filters, uint8_t from, uint8_t to, uint32_t pgn);
-yendrolf_told FAST(filters_clear)(uint32_t *filters, uint8_t from, uint8_t to);
-yendrolf_told FAST(filters_set_mode)(uint32_t *filters, uint8_t from, uint8_t to, uint8_t mode);
+yendrolf_told FAST(filters_renew)(uint32_t *filters, uint8_t from, uint8_t to, uint8_t mode);
 yendrolf_told FAST(filters_decide)(const uint32_t *filters, uint8_t from, uint8_t to, uint32_t identifier);
 
 #endif

@@ -83,14 +83,13 @@ int main(void)
     say("keep 65251 from port 1 off port 2", yendrolf_add(&box, 1, 2, 65251));
     say("does 18FEE300h pass from 1 to 2?", yendrolf_decide(&box, 1, 2, 0x18fee300));
     say("does 18FEE300h pass from 2 to 1?", yendrolf_decide(&box, 2, 1, 0x18fee300));
-    say("set mode 1 while one is listed", yendrolf_set_mode(&box, 1, 2, YENDROLF_BLOCK_ALL_BUT));
-    say("clear", yendrolf_clear(&box, 1, 2));
-    say("set mode 1", yendrolf_set_mode(&box, 1, 2, YENDROLF_BLOCK_ALL_BUT));
+    say("renew: mode 1, an empty list", yendrolf_renew(&box, 1, 2, YENDROLF_BLOCK_ALL_BUT));
     say("does 18FEE300h pass from 1 to 2?", yendrolf_decide(&box, 1, 2, 0x18fee300));
     say("add 65251", yendrolf_add(&box, 1, 2, 65251));
     say("does 18FEE300h pass from 1 to 2?", yendrolf_decide(&box, 1, 2, 0x18fee300));
     say("delete it", yendrolf_delete(&box, 1, 2, 65251));
     say("delete it again", yendrolf_delete(&box, 1, 2, 65251));
-    say("add to port 15", yendrolf_add(&box, 1, 15, 65251));
+    say("renew with mode 2", yendrolf_renew(&box, 1, 2, 2));
+    say("renew to port 15", yendrolf_renew(&box, 1, 15, YENDROLF_PASS_ALL_BUT));
     return 0;
 }

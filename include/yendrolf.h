@@ -43,7 +43,7 @@ extern "C" {
 #endif
 
 /* The version of the calls: one more when a caller must be built again or changed. yendrolf_version() is that of the archive. */
-#define YENDROLF_VERSION 1u
+#define YENDROLF_VERSION 2u
 
 /* The numbers of answers (document 01, "Answer numbers"). */
 enum yendrolf_answer {
@@ -67,7 +67,7 @@ enum yendrolf_answer {
     YENDROLF_BAD_PGN = 17,              /* PGN above 262143, or PF below 240 with a low byte other than 0 */
     YENDROLF_NOT_LISTED = 18,           /* SPN not in the map, nothing at the position, or PGN not in the list */
     YENDROLF_BAD_MODE = 19,             /* filter mode not 0 or 1 */
-    YENDROLF_LIST_NOT_EMPTY = 20        /* mode changed while the list is not empty */
+    YENDROLF_LIST_NOT_EMPTY = 20        /* never given: no command changes a mode and keeps the list */
 };
 
 /* The judgement of a map: the first of these that applies, with the lowest position that it applies to (0 where it is about no position). */
@@ -218,8 +218,7 @@ yendrolf_told yendrolf_table_finish(const uint64_t *table, yendrolf_log log, uin
 void yendrolf_filters_fresh(uint32_t *filters);
 yendrolf_told yendrolf_filters_add(uint32_t *filters, uint8_t from, uint8_t to, uint32_t pgn);
 yendrolf_told yendrolf_filters_delete(uint32_t *filters, uint8_t from, uint8_t to, uint32_t pgn);
-yendrolf_told yendrolf_filters_clear(uint32_t *filters, uint8_t from, uint8_t to);
-yendrolf_told yendrolf_filters_set_mode(uint32_t *filters, uint8_t from, uint8_t to, uint8_t mode);
+yendrolf_told yendrolf_filters_renew(uint32_t *filters, uint8_t from, uint8_t to, uint8_t mode);
 yendrolf_told yendrolf_filters_decide(const uint32_t *filters, uint8_t from, uint8_t to, uint32_t identifier);
 
 /* ---- TO BE CALLED, from here on. */
@@ -338,16 +337,10 @@ static inline yendrolf_told yendrolf_delete(yendrolf_box *box, uint8_t from, uin
     return yendrolf_filters_delete(box->filters, from, to, pgn);
 }
 
-/* Empties a pair's list and keeps its mode: 15 or 0. */
-static inline yendrolf_told yendrolf_clear(yendrolf_box *box, uint8_t from, uint8_t to)
+/* Sets a pair's mode, 0 (passes all but the listed) or 1 (blocks all but the listed), and empties its list, also where it has that mode: 15, 19 or 0. */
+static inline yendrolf_told yendrolf_renew(yendrolf_box *box, uint8_t from, uint8_t to, uint8_t mode)
 {
-    return yendrolf_filters_clear(box->filters, from, to);
-}
-
-/* Sets a pair's mode, 0 (passes all but the listed) or 1 (blocks all but the listed): 15, 19, 20 or 0. */
-static inline yendrolf_told yendrolf_set_mode(yendrolf_box *box, uint8_t from, uint8_t to, uint8_t mode)
-{
-    return yendrolf_filters_set_mode(box->filters, from, to, mode);
+    return yendrolf_filters_renew(box->filters, from, to, mode);
 }
 
 /* Decides on a frame from one port to another: 15, 1, or 0 with detail 1 for pass and 0 for block. The number is looked at first: the detail of 15 and 1 is 0

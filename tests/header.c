@@ -53,9 +53,8 @@ int main(void)
     sum += answer_or_judgement(yendrolf_finish(&box, log, text, sizeof text));
     sum += answer_or_judgement(yendrolf_add(&box, 1, YENDROLF_PORTS, 65251));
     sum += answer_or_judgement(yendrolf_delete(&box, 1, YENDROLF_PORTS, 65251));
-    sum += answer_or_judgement(yendrolf_set_mode(&box, 1, 2, YENDROLF_BLOCK_ALL_BUT));
-    sum += answer_or_judgement(yendrolf_set_mode(&box, 1, 2, YENDROLF_PASS_ALL_BUT));
-    sum += answer_or_judgement(yendrolf_clear(&box, 1, 2));
+    sum += answer_or_judgement(yendrolf_renew(&box, 1, 2, YENDROLF_BLOCK_ALL_BUT));
+    sum += answer_or_judgement(yendrolf_renew(&box, 1, 2, YENDROLF_PASS_ALL_BUT));
     yendrolf_told decided = yendrolf_decide(&box, 1, 2, 0x18fee300);
     if (decided.number != YENDROLF_DONE || decided.detail == YENDROLF_BLOCK || decided.detail != YENDROLF_PASS)
         return 1;

@@ -1,11 +1,11 @@
 #!/usr/bin/env python3
-"""A model of document 01, written from 01 and docs/WIRE.md alone and as plainly as possible: a key is the list of its
+"""A model of document 01 with the requests of document 02 that have landed, written from them and docs/WIRE.md alone and as plainly as possible: a key is the list of its
 messages, a payload is handled one bit at a time, a port pair is a mode and a list. It shares nothing with the Rattle code.
 
     python3 tests/model.py            writes what the programs are run on and what they must write
     python3 tests/model.py --check    says whether those files are what it would write
 
-Words in quotes are 01's. Answers are in 01's numbers; where 01's detail is a judgement and its position, they stand in the
+Words in quotes are 01's, or 02's where a request is named. Answers are in 01's numbers; where 01's detail is a judgement and its position, they stand in the
 fields of that name and the detail is 0."""
 import os
 import sys
@@ -333,20 +333,13 @@ class Box:
         self.pairs[a, b].pgns.remove(pgn)
         return Answer(0)
 
-    def clear(self, a, b):
-        if (a, b) not in self.pairs:
-            return Answer(15)
-        self.pairs[a, b].pgns.clear()
-        return Answer(0)
-
-    def set_mode(self, a, b, mode):
+    def renew(self, a, b, mode):
+        """Req 07: 'named pair, new mode, empty list', refusals '15, then 19'."""
         if (a, b) not in self.pairs:
             return Answer(15)
         if mode not in (0, 1):
             return Answer(19)
-        if mode != self.pairs[a, b].mode and self.pairs[a, b].pgns:
-            return Answer(20)
-        self.pairs[a, b] = Mode(mode, self.pairs[a, b].pgns)
+        self.pairs[a, b] = Mode(mode, [])
         return Answer(0)
 
     def decide(self, a, b, identifier):

@@ -4,7 +4,7 @@ from dice import TOP, case, line, word
 from model import Mode
 from rooms import identifier_of
 
-ADD, DELETE, CLEAR, SET_MODE, DECIDE = range(5)
+ADD, DELETE, RENEW, DECIDE = range(4)
 PAIRS = sorted(model.Box().pairs)
 
 
@@ -16,9 +16,7 @@ class Run:
         self.cases = [(case(0, b""), [])]
 
     def answer(self, call, a, b, x):
-        if call == CLEAR:
-            return self.box.clear(a, b)
-        return (self.box.add, self.box.delete, None, self.box.set_mode, self.box.decide)[call](a, b, x)
+        return (self.box.add, self.box.delete, self.box.renew, self.box.decide)[call](a, b, x)
 
     def call(self, call, a, b, x=0):
         self.cases.append((case(1, bytes([call, a, b]) + word(x)), [line(*self.answer(call, a, b, x))]))
@@ -67,22 +65,26 @@ def sweeps():
     run.everywhere(ADD, 65251)
     run.everywhere(DECIDE, 0x18FEE300)
     run.everywhere(DECIDE, 0x18FEE400)
-    run.everywhere(SET_MODE, 1)
     run.everywhere(DELETE, 65251)
     run.everywhere(DELETE, 65251)
-    run.everywhere(SET_MODE, 1)
+    run.everywhere(DECIDE, 0x18FEE300)
+    run.everywhere(ADD, 65251)
+    run.everywhere(RENEW, 1)
     run.everywhere(DECIDE, 0x18FEE300)
     run.everywhere(ADD, 65251)
     run.everywhere(DECIDE, 0x18FEE300)
-    run.everywhere(CLEAR)
+    run.everywhere(RENEW, 2)
     run.everywhere(DECIDE, 0x18FEE300)
-    run.everywhere(SET_MODE, 2)
+    run.everywhere(RENEW, 1)
+    run.everywhere(DECIDE, 0x18FEE300)
+    run.everywhere(RENEW, 0)
+    run.everywhere(DECIDE, 0x18FEE300)
     run.everywhere(ADD, 262144)
     run.everywhere(DELETE, 1)
     run.everywhere(DECIDE, 2**29)
     # each pair has a PGN of its own
     for i, pair in enumerate(PAIRS):
-        run.call(SET_MODE, *pair, i % 2)
+        run.call(RENEW, *pair, i % 2)
         run.call(ADD, *pair, 65280 + i)
     for i in range(12):
         run.everywhere(DECIDE, frame_with(65280 + i))
@@ -103,7 +105,7 @@ def full():
     """32 PGNs, and one more; in either mode."""
     run = Run()
     for mode in (0, 1):
-        run.call(SET_MODE, 3, 1, mode)
+        run.call(RENEW, 3, 1, mode)
         for i in range(34):
             run.call(ADD, 3, 1, 65280 + i)
         run.call(ADD, 3, 1, 65281)
@@ -117,8 +119,9 @@ def full():
         for i in range(34):
             run.call(DECIDE, 3, 1, frame_with(65280 + i))
             run.call(DECIDE, 1, 3, frame_with(65280 + i))
-        run.call(SET_MODE, 3, 1, 1 - mode)
-        run.call(CLEAR, 3, 1)
+        run.call(RENEW, 3, 1, 2 + mode)
+        run.call(DECIDE, 3, 1, frame_with(65312))
+        run.call(RENEW, 3, 1, 1 - mode)
         run.call(DECIDE, 3, 1, frame_with(65312))
     return run
 
@@ -143,20 +146,21 @@ def forms():
 
 
 def modes():
-    """Modes 0, 1, 2, 255, to and from each, with and without a list; clear keeps the mode."""
+    """From each mode to modes 0, 1, 2, 255, with and without a list: a renew empties it, also where the mode stays, and a refused one leaves it. No
+    other pair goes with it."""
     run = Run()
     for before in (0, 1):
         for mode in (0, 1, 2, 3, 128, 254, 255):
             for listed in ((), (65251,), (65251, 60928)):
-                run.call(CLEAR, 2, 4)
-                run.call(SET_MODE, 2, 4, before)
-                for pgn in listed:
-                    run.call(ADD, 2, 4, pgn)
-                run.call(SET_MODE, 2, 4, mode)
-                run.call(DECIDE, 2, 4, 0x18FEE300)
-                run.call(DECIDE, 2, 4, 0x18EE20F8)
-                run.call(CLEAR, 2, 4)
-                run.call(DECIDE, 2, 4, 0x18FEE300)
+                for pair in ((2, 4), (4, 2)):
+                    run.call(RENEW, *pair, before)
+                    for pgn in listed:
+                        run.call(ADD, *pair, pgn)
+                run.call(RENEW, 2, 4, mode)
+                for pair in ((2, 4), (4, 2)):
+                    run.call(DECIDE, *pair, 0x18FEE300)
+                    run.call(DECIDE, *pair, 0x18EE20F8)
+                run.call(DELETE, 2, 4, 65251)
     return run
 
 
@@ -165,8 +169,7 @@ def around_240():
     run = Run()
     for pgn in (61184, 61440, 61441, 65536 + 61184, 131072 + 61440, 261888, 262143):
         for mode in (0, 1):
-            run.call(CLEAR, 1, 4)
-            run.call(SET_MODE, 1, 4, mode)
+            run.call(RENEW, 1, 4, mode)
             run.call(ADD, 1, 4, pgn)
             for reserved, page in ((0, 0), (0, 1), (1, 0)):
                 for pf, ps in ((238, 0), (239, 0), (239, 1), (239, 255), (240, 0), (240, 1), (240, 255), (241, 0)):
@@ -188,9 +191,9 @@ def any_call(dice, run, pairs, pgns):
     elif what < 57:
         run.call(DELETE, a, b, dice.one_of(pgns))
     elif what == 57 and dice.below(3) == 0:
-        run.call(CLEAR, a, b)
-    elif what < 64:
-        run.call(SET_MODE, a, b, dice.one_of([0, 0, 1, 1, 2, 255]))
+        run.call(RENEW, a, b, dice.one_of([0, 0, 1, 1, 2, 255]))
+    elif what < 60:
+        run.call(RENEW, a, b, dice.one_of([2, 3, 255]))
     else:
         run.call(DECIDE, a, b, dice.one_of([frame_with(dice.one_of(pgns) % 2**18, dice)] * 9 + [dice.below(2**32)]))
 
@@ -216,4 +219,8 @@ def any_words(dice):
     run.write(words)
     for _ in range(120):
         any_call(dice, run, PAIRS, pgns)
+    for pair in dice.some(4, PAIRS):
+        run.call(RENEW, *pair, dice.below(2))
+        for _ in range(4):
+            any_call(dice, run, [pair], pgns)
     return run

@@ -41,9 +41,9 @@ static yendrolf_box before;           /* the library's before the call */
 
 static uint64_t seed, calls, checks;
 
-enum call { LEARN, FORGET, COUNT, JUDGE, PACK, READ, FIND, PARAMETER, KEYS, ADD, DELETE, CLEAR, MODE, DECIDE, LIST, KINDS };
-static const char *const call_names[KINDS] = { "learn", "forget", "count", "judge", "pack", "read", "find", "parameter", "next key", "add", "delete", "clear",
-    "set mode", "decide", "listing" };
+enum call { LEARN, FORGET, COUNT, JUDGE, PACK, READ, FIND, PARAMETER, KEYS, ADD, DELETE, RENEW, DECIDE, LIST, KINDS };
+static const char *const call_names[KINDS] = { "learn", "forget", "count", "judge", "pack", "read", "find", "parameter", "next key", "add", "delete", "renew",
+    "decide", "listing" };
 static uint64_t answers[KINDS][21], kinds[KINDS];
 static uint64_t judgements[2][9];     /* of judging, and of answer 12 */
 static uint64_t pass_or_block[2], longest, most_numbers;
@@ -576,13 +576,9 @@ static void command(enum call kind)
         a = yendrolf_delete(&box, from, to, pgn);
         b = plain_delete(&plain, from, to, pgn);
         break;
-    case CLEAR:
-        a = yendrolf_clear(&box, from, to);
-        b = plain_clear(&plain, from, to);
-        break;
-    case MODE:
-        a = yendrolf_set_mode(&box, from, to, mode);
-        b = plain_set_mode(&plain, from, to, mode);
+    case RENEW:
+        a = yendrolf_renew(&box, from, to, mode);
+        b = plain_renew(&plain, from, to, mode);
         break;
     default:
         a = yendrolf_decide(&box, from, to, identifier);
@@ -737,11 +733,9 @@ static void one_call(void)
         command(ADD);
     else if (what < 875)
         command(DELETE);
-    else if (what < 878)
-        command(CLEAR);
-    else if (what < 915)
-        command(MODE);
-    else if (what < 920)
+    else if (what < 878)   /* seldom, so that lists fill */
+        command(RENEW);
+    else if (what < 883)
         listing();
     else
         command(DECIDE);

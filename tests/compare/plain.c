@@ -532,24 +532,15 @@ struct plain_answer plain_delete(struct plain_box *box, unsigned from, unsigned 
     return answer(0, 0);
 }
 
-struct plain_answer plain_clear(struct plain_box *box, unsigned from, unsigned to)
-{
-    if (no_pair(from, to))
-        return answer(15, 0);
-    box->pairs[from][to].count = 0;
-    return answer(0, 0);
-}
-
-struct plain_answer plain_set_mode(struct plain_box *box, unsigned from, unsigned to, unsigned mode)
+/* Req 07: "named pair, new mode, empty list", "15, then 19" */
+struct plain_answer plain_renew(struct plain_box *box, unsigned from, unsigned to, unsigned mode)
 {
     if (no_pair(from, to))
         return answer(15, 0);
     if (mode != 0 && mode != 1)
         return answer(19, 0);
-    struct plain_pair *pair = &box->pairs[from][to];
-    if (mode != pair->mode && pair->count > 0)
-        return answer(20, 0);
-    pair->mode = mode;
+    box->pairs[from][to].mode = mode;
+    box->pairs[from][to].count = 0;
     return answer(0, 0);
 }
 

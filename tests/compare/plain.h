@@ -84,8 +84,7 @@ int plain_key_from(const struct plain_box *box, unsigned *source, unsigned *dest
 
 struct plain_answer plain_add(struct plain_box *box, unsigned from, unsigned to, uint32_t pgn);
 struct plain_answer plain_delete(struct plain_box *box, unsigned from, unsigned to, uint32_t pgn);
-struct plain_answer plain_clear(struct plain_box *box, unsigned from, unsigned to);
-struct plain_answer plain_set_mode(struct plain_box *box, unsigned from, unsigned to, unsigned mode);
+struct plain_answer plain_renew(struct plain_box *box, unsigned from, unsigned to, unsigned mode);
 struct plain_answer plain_decide(const struct plain_box *box, unsigned from, unsigned to, uint32_t identifier);
 
 /* The listing of a log: its text into `text`, which has room for `room` bytes; the number of bytes, or 0 where they have no room. */

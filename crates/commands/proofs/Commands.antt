@@ -1,24 +1,26 @@
 -- After ANY run of calls on fresh filters, with any numbers, refused ones and decisions too, each call is answered as the calls that name its
--- pair, in their order, have it answered by a fresh pair; calls that name other pairs do not count. Assumes nothing.
+-- pair, in their order, have it answered by a fresh pair; calls that name other pairs, and those before the pair's last renew, do not count.
+-- Assumes nothing.
 use mathlib.Core.Path.{_≡_, refl, sym, ap, _∙_}
 use mathlib.Core.Bool.{true, false, cond, and-eq-true-iff, true≢false}
 use mathlib.Core.List.{List, [], _∷_}
 use Prim.Native.Nat.{ℕ, _+_, _*_, _<_, _≤_}
 use native.Mathlib.Decide.{ℕ-discrete}
 use native.Mathlib.Omega.{arith}
-use borrow.Author.Tests.{ltb-true, eqb-true, eq-eqb, le-ltb}
+use borrow.Author.Tests.{ltb-true, eqb-true, eq-eqb, le-ltb, leb-true}
 use lib.Dec.{eqb}
 use lib.ListN.{length, getD, length-replicate}
 use Rattle.words.specs.Rows.{rowAt, putAt}
 use Rattle.words.specs.Runs.{only, fold, Keyed}
 use Rattle.words.proofs.Tests.{test}
 use Rattle.words.proofs.Rows.{length-rowAt, rowAt-getD, zeros}
-use Rattle.words.proofs.Runs.{own-events, kept-all}
+use Rattle.words.proofs.Runs.{own-events, kept-all, fold-upTo}
 use Rattle.answers.specs.Answers.{plain}
-use Rattle.pairs.specs.Pairs.{room, Pair, Counted, freshPair}
+use Rattle.pairs.specs.declared.Command.the-variants.{Add, Delete, Renew}
+use Rattle.pairs.specs.Pairs.{room, Pair, Counted, freshPair, answerTo, obeyed, stepPair}
 use Rattle.pairs.specs.Row.{modeIn, countIn, entryIn, listedIn, pairIn, rowAfter, ListedOnce}
 use Rattle.ports.specs.Filters.{twoPorts, pairOf, freshWords, pairRow, pairAt, commanded, decided}
-use Rattle.commands.specs.Calls.{Ask, Order, Decide, PortCall, calledBy, called, filtersAfter, answerOf, asked, namesPair, pairAfter}
+use Rattle.commands.specs.Calls.{Ask, Order, Decide, PortCall, calledBy, called, filtersAfter, answerOf, asked, namesPair, pairAfter, renewsBy, sinceRenew}
 use Rattle.ports.proofs.Numbers.{number-fits}
 use Rattle.ports.proofs.Calls.{all-fresh}
 use Rattle.commands.proofs.Refusals.{row-long′, put-long, own-row, other-row, others-stay}
@@ -150,6 +152,25 @@ answered h c =
 pub isolated : (h g : List PortCall) (c : PortCall) → only (namesPair (c .from) (c .to)) h ≡ only (namesPair (c .from) (c .to)) g
     → called (filtersAfter h) c .answer ≡ called (filtersAfter g) c .answer
 isolated h g c e = answered h c ∙ rw e (sym (answered g c))
+
+-- Req 07: a renew makes the same of any pair
+renew-forgets : (p q : Pair) (a : Ask) → renewsBy a ≡ true → asked p a ≡ asked q a
+unfolding stepPair answerTo obeyed
+renew-forgets p q (Order (Renew m)) e = rw (le-ltb 1 m (leb-true m 1 e))
+renew-forgets p q (Order (Add g)) e = absurd (true≢false (sym e))
+renew-forgets p q (Order (Delete g)) e = absurd (true≢false (sym e))
+renew-forgets p q (Decide id) e = absurd (true≢false (sym e))
+
+-- the pair is what its calls since its last renew made of it, and nothing before counts
+pub pair-since : (h : List PortCall) (f t : ℕ) → pairAfter h f t ≡ fold (λ p c. asked p (c .ask)) freshPair (sinceRenew h f t)
+pair-since h f t =
+    fold-upTo (λ p c. asked p (c .ask)) freshPair (λ c. renewsBy (c .ask)) (λ p q c e. renew-forgets p q (c .ask) e) (only (namesPair f t) h)
+
+-- two runs with the same calls of the pair since its last renew answer a call to it alike
+pub nothing-before : (h g : List PortCall) (c : PortCall) → sinceRenew h (c .from) (c .to) ≡ sinceRenew g (c .from) (c .to)
+    → called (filtersAfter h) c .answer ≡ called (filtersAfter g) c .answer
+nothing-before h g c e =
+    answered h c ∙ rw (pair-since h (c .from) (c .to), e, ← (pair-since g (c .from) (c .to))) (sym (answered g c))
 
 -- the count is that of the PGNs that are listed, each once, and at most 32
 pub counted : (h : List PortCall) (f t : ℕ) → twoPorts f t ≡ true → Counted (pairAfter h f t)

@@ -6,7 +6,7 @@ use Prim.Native.Nat.{ℕ, zero, suc, _+_}
 use lib.Dec.{eqb}
 use Rattle.words.specs.First.{first}
 use Rattle.words.specs.Rows.{rowAt, putAt}
-use Rattle.pairs.specs.declared.Command.the-variants.{Add, Delete, Clear, SetMode}
+use Rattle.pairs.specs.declared.Command.the-variants.{Add, Delete, Renew}
 use Rattle.pairs.specs.Pairs.{answerTo, decidedBy}
 use Rattle.pairs.specs.Row.{countIn, entryIn, rewritten, rowAfter}
 use Rattle.ports.specs.Filters.{twoPorts, pairOf, freshWords, commanded, decided}
@@ -48,19 +48,21 @@ examples =
     gives [] (to 1 2 frame) 0 1
     ∷ gives (to 1 2 (Order (Add 65251)) ∷ []) (to 1 2 frame) 0 0
     ∷ gives (to 1 2 (Order (Add 65251)) ∷ []) (to 2 1 frame) 0 1
-    ∷ gives (to 1 2 (Order (SetMode 1)) ∷ []) (to 1 2 frame) 0 0
-    ∷ gives (to 1 2 (Order (Add 65251)) ∷ to 1 2 (Order (SetMode 1)) ∷ []) (to 1 2 frame) 0 1
-    ∷ gives (to 1 2 (Order (Add 65251)) ∷ []) (to 1 2 (Order (SetMode 1))) 20 0
-    ∷ gives (to 1 2 (Order (Add 65251)) ∷ []) (to 1 2 (Order (SetMode 0))) 0 0
-    ∷ gives (to 1 2 (Order Clear) ∷ to 1 2 (Order (Add 65251)) ∷ []) (to 1 2 frame) 0 1
+    ∷ gives (to 1 2 (Order (Renew 1)) ∷ []) (to 1 2 frame) 0 0
+    ∷ gives (to 1 2 (Order (Add 65251)) ∷ to 1 2 (Order (Renew 1)) ∷ []) (to 1 2 frame) 0 1
+    ∷ gives (to 1 2 (Order (Renew 1)) ∷ to 1 2 (Order (Add 65251)) ∷ []) (to 1 2 frame) 0 0
+    ∷ gives (to 1 2 (Order (Renew 0)) ∷ to 1 2 (Order (Add 65251)) ∷ []) (to 1 2 frame) 0 1
+    ∷ gives (to 1 2 (Order (Renew 0)) ∷ to 2 1 (Order (Add 65251)) ∷ []) (to 2 1 frame) 0 0
+    ∷ gives (to 1 2 (Order (Renew 2)) ∷ to 1 2 (Order (Add 65251)) ∷ []) (to 1 2 frame) 0 0
     ∷ gives (to 1 2 (Order (Delete 65251)) ∷ to 1 2 (Order (Add 65251)) ∷ []) (to 1 2 (Order (Delete 65251))) 18 0
     ∷ gives (filled 31) (to 1 2 (Order (Add 65251))) 0 0
     ∷ gives (filled 32) (to 1 2 (Order (Add 65251))) 16 0
     ∷ gives (filled 32) (to 1 2 (Order (Add 61440))) 0 0
     ∷ gives [] (to 1 2 (Order (Delete 1))) 17 0
-    ∷ gives [] (to 1 2 (Order (SetMode 2))) 19 0
+    ∷ gives [] (to 1 2 (Order (Renew 2))) 19 0
     ∷ gives [] (to 1 15 frame) 15 0
-    ∷ gives [] (to 3 3 (Order Clear)) 15 0
+    ∷ gives [] (to 15 1 (Order (Renew 0))) 15 0
+    ∷ gives [] (to 3 3 (Order (Renew 2))) 15 0
     ∷ gives [] (to 4 3 (Decide 536870912)) 1 0
     ∷ []
 

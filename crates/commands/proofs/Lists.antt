@@ -12,9 +12,9 @@ use lib.Seq.{getD-set-same, getD-set-other}
 use Rattle.words.proofs.Tests.{test, same-test}
 use Rattle.answers.specs.Tests.{firstOf}
 use Rattle.answers.proofs.Tests.{None, numbered, none-applies}
-use Rattle.words.proofs.First.{first-same, first-holds, first-below}
+use Rattle.words.proofs.First.{first-holds, first-below}
 use Rattle.pairs.specs.declared.Command.{Command}
-use Rattle.pairs.specs.declared.Command.the-variants.{Add, Delete, Clear, SetMode}
+use Rattle.pairs.specs.declared.Command.the-variants.{Add, Delete, Renew}
 use Rattle.pairs.specs.Pairs.{Pair, pairWith, testsFor, answerTo, obeyed, stepPair}
 use Rattle.pairs.specs.Row.{modeIn, countIn, entryIn, listedIn, pairIn, edited, rewritten, rowAfter, ListedOnce}
 
@@ -176,44 +176,27 @@ module _ (r : List ℕ) (long : length r ≡ 34) (g : ℕ) (once : ListedOnce r)
       go (no a) (yes b) jl kl = absurd (moved j jl a (e ∙ rw b))
       go (no a) (no b) jl kl = once j k (omega arith) (omega arith) (sym (deleted-cell j a) ∙ e ∙ deleted-cell k b)
 
--- clear: nothing is listed
-module _ (r : List ℕ) (long : length r ≡ 34) where
-  cleared-count : countIn (set r 1 0) ≡ 0
-  cleared-count = count-is (set r 1 0) 0 (getD-set-same r 1 0 0 (omega arith)) (omega arith)
-
-  cleared-lists : (x : ℕ) → listedIn (set r 1 0) x ≡ false
-  cleared-lists x = rw cleared-count (le-ltb (entryIn (set r 1 0) x) 0 (omega arith))
-
-  cleared-mode : modeIn (set r 1 0) ≡ modeIn r
-  cleared-mode = ap (λ (m : ℕ). cond (eqb m 0) 0 1) (getD-set-other r 1 0 0 0 (omega arith))
-
-  cleared-once : ListedOnce (set r 1 0)
-  unfolding ListedOnce
-  cleared-once j k jl kl e = absurd (omega (arith, cleared-count))
-
--- set mode: the list stays
+-- renew: nothing is listed, and the mode is the new one
 module _ (r : List ℕ) (long : length r ≡ 34) (m : ℕ) where
-  mode-count : countIn (set r 0 m) ≡ countIn r
-  unfolding countIn
-  mode-count = rw (getD-set-other r 0 1 m 0 (omega arith))
+  abbrev renewed : List ℕ
+  renewed = set (set r 0 m) 1 0
 
-  mode-cell : (k : ℕ) → getD (set r 0 m) (2 + k) 0 ≡ getD r (2 + k) 0
-  mode-cell k = getD-set-other r 0 (2 + k) m 0 (omega arith)
+  renewed-count : countIn renewed ≡ 0
+  renewed-count = count-is renewed 0 (getD-set-same (set r 0 m) 1 0 0 (simp length-set (omega arith))) (omega arith)
 
-  mode-place : (x : ℕ) → entryIn (set r 0 m) x ≡ entryIn r x
-  unfolding entryIn
-  mode-place x = rw mode-count (first-same _ _ (countIn r) (λ k h. ap (λ (y : ℕ). eqb y x) (mode-cell k)))
+  renewed-lists : (x : ℕ) → listedIn renewed x ≡ false
+  renewed-lists x = rw renewed-count (le-ltb (entryIn renewed x) 0 (omega arith))
 
-  mode-is : m ≤ 1 → modeIn (set r 0 m) ≡ m
-  mode-is h = rw (getD-set-same r 0 m 0 (omega arith)) (go (ℕ-discrete m 0))
+  renewed-mode : m ≤ 1 → modeIn renewed ≡ m
+  renewed-mode h = rw (getD-set-other (set r 0 m) 1 0 0 0 (omega arith), getD-set-same r 0 m 0 (omega arith)) (go (ℕ-discrete m 0))
     where
       go : Dec (m ≡ 0) → cond (eqb m 0) 0 1 ≡ m
       go (yes e) = rw e
       go (no ne) = rw (ne-eqb m 0 ne) (omega arith)
 
-  mode-once : ListedOnce r → ListedOnce (set r 0 m)
+  renewed-once : ListedOnce renewed
   unfolding ListedOnce
-  mode-once once j k jl kl e = once j k (rw mode-count at jl) (rw mode-count at kl) (sym (mode-cell j) ∙ e ∙ mode-cell k)
+  renewed-once j k jl kl e = absurd (omega (arith, renewed-count))
 
 -- ---- any command
 
@@ -225,8 +208,7 @@ row-long r c = test (eqb (answerTo (pairIn r) c) 0) (λ y. rw y (go c)) (λ n. r
     go : (c : Command) → length (rewritten r c) ≡ length r
     go (Add g) = test (listedIn r g) (λ y. rw y) (λ n. rw n (simp length-set))
     go (Delete g) = simp length-set
-    go Clear = length-set r 1 0
-    go (SetMode m) = test (eqb m (modeIn r)) (λ y. rw y) (λ n. rw n (length-set r 0 m))
+    go (Renew m) = simp length-set
 
 -- a row of 34 words in which no PGN stands twice
 pub record Tidy (r : List ℕ) : Type 0 where
@@ -255,22 +237,15 @@ obeys r t (Delete g) (_, (no-18, _)) =
       same-pair (edit-mode r l (entryIn r g) (getD r (1 + countIn r) 0) (countIn r - 1)) (deleted-lists r l g o held) (deleted-count r l g o held),
       deleted-once r l g o held,
     )
-obeys r t Clear n = (same-pair (cleared-mode r (t .long)) (cleared-lists r (t .long)) (cleared-count r (t .long)), cleared-once r (t .long))
-obeys r t (SetMode m) (no-19, _) =
+obeys r t (Renew m) (no-19, _) =
     let l = t .long in
-    test (eqb m (modeIn r)) (λ y. rw y (same-pair (sym (eqb-true m (modeIn r) y)) (λ x. refl) refl, t .once))
-    (λ n.
-    rw n (
-      same-pair (mode-is r l m (ltb-false 1 m no-19)) (λ x. rw (mode-place r l m x, mode-count r l m)) (mode-count r l m),
-      mode-once r l m (t .once),
-    ))
+    (same-pair (renewed-mode r l m (ltb-false 1 m no-19)) (renewed-lists r l m) (renewed-count r l m), renewed-once r l m)
 
 -- no command has a test for 0
 pub all-numbered : (p : Pair) (c : Command) → T (numbered (testsFor p c))
 all-numbered p (Add g) = tt
 all-numbered p (Delete g) = tt
-all-numbered p Clear = tt
-all-numbered p (SetMode m) = tt
+all-numbered p (Renew m) = tt
 
 -- the words after a command mean what the command makes of the pair; a refusal leaves both
 pub row-steps : (r : List ℕ) → Tidy r → (c : Command) → (pairIn (rowAfter r c) ≡ stepPair (pairIn r) c) × ListedOnce (rowAfter r c)

@@ -8,18 +8,18 @@ use native.Mathlib.Omega.{arith}
 use lib.Dec.{T, eqb}
 use lib.ListN.{length}
 use Rattle.words.specs.Rows.{rowAt, putAt}
-use Rattle.words.proofs.Tests.{test}
+use Rattle.words.proofs.Tests.{test, never}
 use Rattle.words.proofs.Rows.{length-rowAt, length-putAt, rowAt-putAt, rowAt-putAt-other, putAt-same}
 use Rattle.answers.specs.Answers.{Said, plain, done, Outcome, outcome}
 use Rattle.answers.specs.Tests.{Test, inOrder, firstOf, tested}
 use Rattle.answers.proofs.Tests.{numbered, oneOf, numbersBy, from-answers, leaves}
 use Rattle.frame.specs.Frame.{fieldsOf, pgnOf}
 use Rattle.pairs.specs.declared.Command.{Command}
-use Rattle.pairs.specs.declared.Command.the-variants.{Add, Delete, Clear, SetMode}
+use Rattle.pairs.specs.declared.Command.the-variants.{Add, Delete, Renew}
 use Rattle.pairs.specs.Pairs.{passes, testsFor, answerTo, decidedBy}
 use Rattle.pairs.specs.Row.{rewritten, rowAfter}
 use Rattle.ports.specs.Filters.{twoPorts, pairOf, pairRow, pairAt, commanded, decided}
-use Rattle.ports.proofs.Numbers.{number-fits}
+use Rattle.ports.proofs.Numbers.{Two, two, number-fits}
 use Rattle.commands.specs.Refusals.{plainly, commandTests, decideTests}
 use Rattle.commands.proofs.Numbers.{number-own}
 use Rattle.commands.proofs.Lists.{row-long, all-numbered}
@@ -59,6 +59,10 @@ by-tests (t ∷ ts) h w v = go (eqb (t .answer) 0) refl h (λ g. by-tests ts g w
     go true q h ih = absurd h
     go false q h ih = test (t .applies) (λ y. rw (y, q)) (λ n. rw n (ih h))
 
+-- a number of a list is none that the list has not
+not-20 : (n : ℕ) (l : List ℕ) → oneOf 20 l ≡ false → oneOf n l ≡ true → n ≡ 20 → ⊥
+not-20 n l lacks has e = never (rw e at has) lacks
+
 -- what a command does where no test applies
 abbrev pub carriedOut : List ℕ → ℕ → ℕ → Command → Outcome
 carriedOut w f t c = outcome (plain 0) (putAt 34 w (pairOf f t) (rewritten (pairRow w f t) c))
@@ -93,11 +97,14 @@ module _ (w : List ℕ) (long : length w ≡ 408) (f t : ℕ) where
   pub delete-answers : (g : ℕ) → oneOf (commanded w f t (Delete g) .answer .number) (0 ∷ 15 ∷ 17 ∷ 18 ∷ []) ≡ true
   delete-answers g = of-command (Delete g)
 
-  pub clear-answers : oneOf (commanded w f t Clear .answer .number) (0 ∷ 15 ∷ []) ≡ true
-  clear-answers = of-command Clear
+  pub renew-answers : (m : ℕ) → oneOf (commanded w f t (Renew m) .answer .number) (0 ∷ 15 ∷ 19 ∷ []) ≡ true
+  renew-answers m = of-command (Renew m)
 
-  pub set-mode-answers : (m : ℕ) → oneOf (commanded w f t (SetMode m) .answer .number) (0 ∷ 15 ∷ 19 ∷ 20 ∷ []) ≡ true
-  set-mode-answers m = of-command (SetMode m)
+  -- "Answer 20 is never given again": by no command, and by no decision (below)
+  pub never-20 : (c : Command) → commanded w f t c .answer .number ≡ 20 → ⊥
+  never-20 (Add g) = not-20 _ (0 ∷ 15 ∷ 17 ∷ 16 ∷ []) refl (add-answers g)
+  never-20 (Delete g) = not-20 _ (0 ∷ 15 ∷ 17 ∷ 18 ∷ []) refl (delete-answers g)
+  never-20 (Renew m) = not-20 _ (0 ∷ 15 ∷ 19 ∷ []) refl (renew-answers m)
 
   -- a refusal leaves all words
   pub refusal-stays : (c : Command) → (commanded w f t c .answer .number ≡ 0 → ⊥) → commanded w f t c .memory ≡ w
@@ -123,3 +130,14 @@ module _ (w : List ℕ) (f t id : ℕ) where
 
   pub decide-answers : oneOf (decided w f t id .number) (0 ∷ 15 ∷ 1 ∷ []) ≡ true
   decide-answers = rw decide-in-order (from-answers (λ a. a .number) (λ a. a) (λ a. refl) (decideTests f t id) decision)
+
+  pub decide-never-20 : decided w f t id .number ≡ 20 → ⊥
+  decide-never-20 = not-20 _ (0 ∷ 15 ∷ 1 ∷ []) refl decide-answers
+
+-- "port 15 stays refused", and so do 0, 5, 255 and two equal ports: whatever is no two different ports, each 1 to 4
+pub ports-refused : (w : List ℕ) (f t : ℕ) (c : Command) → (Two f t → ⊥) → commanded w f t c ≡ outcome (plain 15) w
+unfolding commanded
+ports-refused w f t c none = test (twoPorts f t) (λ y. absurd (none (two f t y))) (λ n. rw n)
+
+pub port-15 : (w : List ℕ) (n : ℕ) (c : Command) → (commanded w n 15 c ≡ outcome (plain 15) w) × (commanded w 15 n c ≡ outcome (plain 15) w)
+port-15 w n c = (ports-refused w n 15 c (λ p. omega (arith, p .to-most)), ports-refused w 15 n c (λ p. omega (arith, p .from-most)))

@@ -1,11 +1,12 @@
 -- Runs of calls, and the pair that a run leaves (01's third demand on the ports). Calls come with any numbers. Assumes nothing.
-use mathlib.Core.Bool.{Bool, _&&_}
+use mathlib.Core.Bool.{Bool, false, _&&_}
 use mathlib.Core.List.{List, [], _∷_}
 use Prim.Native.Nat.{ℕ}
-use lib.Dec.{eqb}
-use Rattle.words.specs.Runs.{only, fold}
+use lib.Dec.{eqb, leb}
+use Rattle.words.specs.Runs.{only, upTo, fold}
 use Rattle.answers.specs.Answers.{Said, Outcome, outcome}
 use Rattle.pairs.specs.declared.Command.{Command}
+use Rattle.pairs.specs.declared.Command.the-variants.{Add, Delete, Renew}
 use Rattle.pairs.specs.Pairs.{Pair, freshPair, stepPair, replied, decidedBy}
 use Rattle.ports.specs.Filters.{freshWords, commanded, decided}
 
@@ -48,3 +49,14 @@ namesPair f t c = eqb (c .from) f && eqb (c .to) t
 -- what the calls that name a pair, in their order, make of a fresh pair
 abbrev pub pairAfter : List PortCall → ℕ → ℕ → Pair
 pairAfter h f t = fold (λ p c. asked p (c .ask)) freshPair (only (namesPair f t) h)
+
+-- whether a call is a renew that is carried out, where its ports are two
+abbrev pub renewsBy : Ask → Bool
+renewsBy (Order (Renew m)) = leb m 1
+renewsBy (Order (Add g)) = false
+renewsBy (Order (Delete g)) = false
+renewsBy (Decide id) = false
+
+-- the calls that name a pair since its last renew, that one included
+abbrev pub sinceRenew : List PortCall → ℕ → ℕ → List PortCall
+sinceRenew h f t = upTo (λ c. renewsBy (c .ask)) (only (namesPair f t) h)

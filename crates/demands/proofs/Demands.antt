@@ -54,11 +54,11 @@ use Rattle.splice.specs.Splice.{fits}
 use Rattle.judge.specs.Judge.{paramsOf}
 use Rattle.words.specs.Runs.{only}
 use Rattle.pairs.specs.declared.Command.{Command}
-use Rattle.pairs.specs.declared.Command.the-variants.{Add, Delete, Clear, SetMode}
+use Rattle.pairs.specs.declared.Command.the-variants.{Add, Delete, Renew}
 use Rattle.ports.specs.Filters.{twoPorts, pairRow, commanded, decided}
-use Rattle.commands.specs.Calls.{PortCall, called, filtersAfter, answerOf, namesPair, pairAfter}
-use Rattle.commands.proofs.Refusals.{add-answers, delete-answers, clear-answers, set-mode-answers, decide-answers, refusal-stays, others-stay}
-use Rattle.commands.proofs.Commands.{answered, isolated}
+use Rattle.commands.specs.Calls.{PortCall, called, filtersAfter, answerOf, namesPair, pairAfter, sinceRenew}
+use Rattle.commands.proofs.Refusals.{add-answers, delete-answers, renew-answers, decide-answers, refusal-stays, others-stay}
+use Rattle.commands.proofs.Commands.{answered, isolated, nothing-before}
 use Rattle.demands.specs.Calls.{Call, Frame, run, happened, Carried, AllCarried}
 use Rattle.demands.proofs.Calls.{run-is}
 
@@ -136,11 +136,8 @@ module _ (w : List ℕ) (long : length w ≡ 408) (from to : ℕ) where
   pub delete-list : (pgn : ℕ) → oneOf (commanded w from to (Delete pgn) .answer .number) (0 ∷ 15 ∷ 17 ∷ 18 ∷ []) ≡ true
   delete-list = delete-answers w long from to
 
-  pub clear-list : oneOf (commanded w from to Clear .answer .number) (0 ∷ 15 ∷ []) ≡ true
-  clear-list = clear-answers w long from to
-
-  pub set-mode-list : (mode : ℕ) → oneOf (commanded w from to (SetMode mode) .answer .number) (0 ∷ 15 ∷ 19 ∷ 20 ∷ []) ≡ true
-  set-mode-list = set-mode-answers w long from to
+  pub renew-list : (mode : ℕ) → oneOf (commanded w from to (Renew mode) .answer .number) (0 ∷ 15 ∷ 19 ∷ []) ≡ true
+  renew-list = renew-answers w long from to
 
   pub decide-list : (id : ℕ) → oneOf (decided w from to id .number) (0 ∷ 15 ∷ 1 ∷ []) ≡ true
   decide-list = decide-answers w from to
@@ -345,3 +342,8 @@ demand-3-ports = answered
 pub same-commands : (calls others : List PortCall) (c : PortCall) → only (namesPair (c .from) (c .to)) calls ≡ only (namesPair (c .from) (c .to)) others
     → called (filtersAfter calls) c .answer ≡ called (filtersAfter others) c .answer
 same-commands = isolated
+
+-- and of the pair's own calls, none before its last renew counts (Req 07)
+pub same-since-renew : (calls others : List PortCall) (c : PortCall) → sinceRenew calls (c .from) (c .to) ≡ sinceRenew others (c .from) (c .to)
+    → called (filtersAfter calls) c .answer ≡ called (filtersAfter others) c .answer
+same-since-renew = nothing-before

@@ -15,7 +15,7 @@ use Rattle.firmware.specs.declared.Placed.{Placed}
 
 -- the version of the exported calls: one more when a caller must be built again or changed
 abbrev pub version : ℕ
-version = 1
+version = 2
 
 -- an answer: its four fields are the four of `Said`
 abbrev pub saidTo : Told → Said

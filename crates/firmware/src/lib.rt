@@ -13,7 +13,7 @@ ghost use Rattle.ask.specs.Ask.{packedBy, readBy, foundIn, foundBy, standingIn,
 ghost use Rattle.open.specs.Open.{judgedBy};
 ghost use Rattle.feeding.specs.Feed.{started, fed, feeding};
 ghost use Rattle.listing.specs.Page.{finished};
-ghost use Rattle.pairs.specs.declared.Command.the-variants.{Add, Delete, Clear, SetMode};
+ghost use Rattle.pairs.specs.declared.Command.the-variants.{Add, Delete, Renew};
 ghost use Rattle.ports.specs.Filters.{commanded, decided, freshWords};
 ghost use Rattle.firmware.specs.Told.{version, saidTo, toldOf, heldOf, findingTo, standingTo, tallyIn};
 use answers::Answer;
@@ -166,7 +166,7 @@ fn tally_of(log: Log) -> Tally
 pub extern "C" fn yendrolf_version() -> u32
     ensures { λ r. ⌜ r ≡ version ⌝ }
 {
-    1
+    2
 }
 
 // ---- the learned table
@@ -377,25 +377,17 @@ pub extern "C" fn yendrolf_filters_delete(
     in_c(ports::delete(w, from, to, pgn))
 }
 
-// Empties the list of one pair; its mode is kept.
+// Sets the mode of one pair and empties its list.
 #[no_mangle]
-pub extern "C" fn yendrolf_filters_clear(w: &mut [u32; ports::WORDS], from: u8, to: u8) -> Told
-    ensures { λ r. ⌜ outcome (saidTo r) (now (w .exit)) ≡ commanded (now (w .entry)) from to Clear ⌝ }
-{
-    in_c(ports::clear(w, from, to))
-}
-
-// Sets the mode of one pair.
-#[no_mangle]
-pub extern "C" fn yendrolf_filters_set_mode(
+pub extern "C" fn yendrolf_filters_renew(
     w: &mut [u32; ports::WORDS],
     from: u8,
     to: u8,
     mode: u8,
 ) -> Told
-    ensures { λ r. ⌜ outcome (saidTo r) (now (w .exit)) ≡ commanded (now (w .entry)) from to (SetMode mode) ⌝ }
+    ensures { λ r. ⌜ outcome (saidTo r) (now (w .exit)) ≡ commanded (now (w .entry)) from to (Renew mode) ⌝ }
 {
-    in_c(ports::set_mode(w, from, to, mode))
+    in_c(ports::renew(w, from, to, mode))
 }
 
 // Decides on a frame from one port to another by its identifier.

@@ -3,13 +3,13 @@ use mathlib.Core.Path.{_≡_, ap}
 use mathlib.Core.Bool.{Bool, true, false}
 use mathlib.Core.List.{List, _++_}
 use Prim.Native.Nat.{ℕ, _+_, _*_, _-_, _/_, _≤_, _<_}
-use borrow.Author.Tests.{lt-ltb, le-ltb, le-leb, lt-leb, eq-eqb, ne-eqb}
+use borrow.Author.Tests.{lt-ltb, le-ltb, le-leb, lt-leb}
 use lib.Dec.{ltb}
 use lib.ListN.{length, take, drop, getD, set}
 use Rattle.words.specs.Rows.{putAt}
 use Rattle.words.proofs.Rows.{part-is-row, back-is-put}
 use Rattle.pairs.specs.declared.Command.{Command}
-use Rattle.pairs.specs.declared.Command.the-variants.{Add, Delete, SetMode}
+use Rattle.pairs.specs.declared.Command.the-variants.{Add, Delete, Renew}
 use Rattle.pairs.specs.Pairs.{passes, illFormed, answerTo}
 use Rattle.pairs.specs.Row.{modeIn, countIn, entryIn, edited, rewritten, rowAfter, Noted, noted, rowObeys, obeysAt, passesAt}
 
@@ -45,25 +45,15 @@ module _ (r : List ℕ) (g : ℕ) {b : Bool} (e : b ≡ illFormed g) where
     unfolding answerTo rewritten rowAfter
     delete-18 h = simp (← e, no-17, ← count, ← entry, le-ltb k n h)
 
--- set mode: no mode, the mode that is there, an empty list, 20
+-- renew: no mode, a mode
 module _ (r : List ℕ) (m : ℕ) where
-  pub mode-19 : 1 < m → noted 19 r ≡ rowObeys r (SetMode m)
+  pub renew-19 : 1 < m → noted 19 r ≡ rowObeys r (Renew m)
   unfolding answerTo rewritten rowAfter
-  mode-19 h = rw (lt-ltb 1 m h)
+  renew-19 h = rw (lt-ltb 1 m h)
 
-  module _ {now : ℕ} (no-19 : m ≤ 1) (mode : now ≡ modeIn r) where
-    pub mode-there : m ≡ now → noted 0 r ≡ rowObeys r (SetMode m)
-    unfolding answerTo rewritten rowAfter
-    mode-there h = simp (le-ltb 1 m no-19, ← mode, eq-eqb m now h)
-
-    module _ {n : ℕ} (other : m ≡ now → ⊥) (count : n ≡ countIn r) where
-      pub mode-set : n ≡ 0 → noted 0 (set r 0 m) ≡ rowObeys r (SetMode m)
-      unfolding answerTo rewritten rowAfter
-      mode-set h = simp (le-ltb 1 m no-19, ← mode, ne-eqb m now other, ← count, eq-eqb n 0 h)
-
-      pub mode-20 : (n ≡ 0 → ⊥) → noted 20 r ≡ rowObeys r (SetMode m)
-      unfolding answerTo rewritten rowAfter
-      mode-20 h = simp (le-ltb 1 m no-19, ← mode, ne-eqb m now other, ← count, ne-eqb n 0 h)
+  pub renew-done : m ≤ 1 → noted 0 (set (set r 0 m) 1 0) ≡ rowObeys r (Renew m)
+  unfolding answerTo rewritten rowAfter
+  renew-done h = rw (le-ltb 1 m h)
 
 -- row i is lent as a part, and comes back
 module _ (w : List ℕ) (i : ℕ) where

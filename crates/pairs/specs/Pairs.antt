@@ -9,7 +9,7 @@ use Rattle.answers.specs.Answers.{Said, plain, done}
 use Rattle.answers.specs.Tests.{Test, _when_, firstOf}
 use Rattle.frame.specs.Frame.{greatestIdentifier, bits, fieldsOf, pgnOf}
 use Rattle.pairs.specs.declared.Command.{Command}
-use Rattle.pairs.specs.declared.Command.the-variants.{Add, Delete, Clear, SetMode}
+use Rattle.pairs.specs.declared.Command.the-variants.{Add, Delete, Renew}
 
 -- "a list of up to 32 PGNs"
 abbrev pub room : ℕ
@@ -43,25 +43,23 @@ illFormed g = ltb 262143 g || (ltb (bits g 8 8) 240 && not (eqb (g % 2 ^ 8) 0))
 abbrev pub passes : ℕ → Bool → Bool
 passes mode listed = cond (eqb mode 0) (not listed) listed
 
--- "Filter commands test 15, then 17, 19, 20, 18, 16 as far as they apply". 16: "the PGN is new" and the list holds 32; 18: "PGN not in the filter
--- list"; 19: "not 0 or 1"; 20: "mode changed while the list is not empty". (15 is about the ports: ports, specs/Filters.antt.)
+-- "Filter commands test 15, then 17, 19, 20, 18, 16 as far as they apply", and since Req 07 "Answer 20 is never given again". 16: "the PGN is
+-- new" and the list holds 32; 18: "PGN not in the filter list"; 19: "not 0 or 1". (15 is about the ports: ports, specs/Filters.antt.)
 abbrev pub testsFor : Pair → Command → List (Test ℕ)
 testsFor p (Add g) = 17 when illFormed g ∷ 16 when (not (p .listed g) && leb room (p .count)) ∷ []
 testsFor p (Delete g) = 17 when illFormed g ∷ 18 when not (p .listed g) ∷ []
-testsFor p Clear = []
-testsFor p (SetMode m) = 19 when ltb 1 m ∷ 20 when (not (eqb m (p .mode)) && not (eqb (p .count) 0)) ∷ []
+testsFor p (Renew m) = 19 when ltb 1 m ∷ []
 
 -- the number of the answer to a command
 unfoldable pub answerTo : Pair → Command → ℕ
 answerTo p c = firstOf (testsFor p c) 0
 
--- what a command that is answered 0 makes of the pair: "Add (a PGN already there: answer 0, no change), delete, clear (empties this pair's
--- list, mode kept), set mode"
+-- what a command that is answered 0 makes of the pair: "Add (a PGN already there: answer 0, no change), delete", and Req 07's single command: "named
+-- pair, new mode, empty list"
 unfoldable pub obeyed : Pair → Command → Pair
 obeyed p (Add g) = cond (p .listed g) p (pairWith (p .mode) (λ x. eqb x g || p .listed x) (p .count + 1))
 obeyed p (Delete g) = pairWith (p .mode) (λ x. not (eqb x g) && p .listed x) (p .count - 1)
-obeyed p Clear = pairWith (p .mode) (λ x. false) 0
-obeyed p (SetMode m) = pairWith m (p .listed) (p .count)
+obeyed p (Renew m) = pairWith m (λ x. false) 0
 
 -- a refused command leaves the pair as it was
 unfoldable pub stepPair : Pair → Command → Pair

@@ -9,7 +9,7 @@ use lib.ListN.{length, getD, set}
 use Rattle.words.specs.First.{first}
 use Rattle.words.specs.Rows.{rowAt, putAt}
 use Rattle.pairs.specs.declared.Command.{Command}
-use Rattle.pairs.specs.declared.Command.the-variants.{Add, Delete, Clear, SetMode}
+use Rattle.pairs.specs.declared.Command.the-variants.{Add, Delete, Renew}
 use Rattle.pairs.specs.Pairs.{room, Pair, pairWith, passes, answerTo}
 
 -- ---- a row
@@ -39,8 +39,7 @@ edited r k g n = set (set r (2 + k) g) 1 n
 unfoldable pub rewritten : List ℕ → Command → List ℕ
 rewritten r (Add g) = cond (listedIn r g) r (edited r (countIn r) g (countIn r + 1))
 rewritten r (Delete g) = edited r (entryIn r g) (getD r (1 + countIn r) 0) (countIn r - 1)
-rewritten r Clear = set r 1 0
-rewritten r (SetMode m) = cond (eqb m (modeIn r)) r (set r 0 m)
+rewritten r (Renew m) = set (set r 0 m) 1 0
 
 -- a refusal leaves the row
 unfoldable pub rowAfter : List ℕ → Command → List ℕ

@@ -22,8 +22,7 @@ pub const ROOM: usize = 32;
 pub enum Command {
     Add(u32),
     Delete(u32),
-    Clear,
-    SetMode(u8),
+    Renew(u8),
 }
 
 // Whether a PGN is above 262,143, or has a PF below 240 with a low byte other than 0.
@@ -114,22 +113,17 @@ fn delete_row(row: &mut [u32], pgn: u32) -> u8
     18
 }
 
-// Changes the mode, where it is another one and the list is empty.
-fn set_mode_row(row: &mut [u32], mode: u8) -> u8
+// Sets the mode and empties the list.
+fn renew_row(row: &mut [u32], mode: u8) -> u8
     requires { ⌜ length (now row) ≡ 34 ⌝ }
-    ensures { λ r. ⌜ noted r (now (row .exit)) ≡ rowObeys (now (row .entry)) (Command.SetMode mode) ⌝ }
+    ensures { λ r. ⌜ noted r (now (row .exit)) ≡ rowObeys (now (row .entry)) (Command.Renew mode) ⌝ }
 {
     if 1 < mode {
         return 19;
     }
-    if mode == mode_of(row) {
-        return 0;
-    }
-    if count_of(row) == 0 {
-        row[0] = mode as u32;
-        return 0;
-    }
-    20
+    row[0] = mode as u32;
+    row[1] = 0;
+    0
 }
 
 // Obeys a command in the row of its pair.
@@ -140,11 +134,7 @@ fn obey_row(row: &mut [u32], c: Command) -> u8
     match c {
         Command::Add(pgn) => add_row(row, pgn),
         Command::Delete(pgn) => delete_row(row, pgn),
-        Command::Clear => {
-            row[1] = 0;
-            0
-        }
-        Command::SetMode(mode) => set_mode_row(row, mode),
+        Command::Renew(mode) => renew_row(row, mode),
     }
 }
 

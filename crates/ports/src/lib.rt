@@ -31,40 +31,25 @@ fn pair_of(from: u8, to: u8) -> usize
     pairs::PAIRS
 }
 
-// Any command to any pair.
-fn obey(w: &mut [u32; WORDS], from: u8, to: u8, c: Command) -> Answer
-    ensures { λ r. ⌜ outcome (inNumbers r) (now (w .exit)) ≡ commanded (now (w .entry)) from to c ⌝ }
-{
-    let number = pairs::obey(w, pair_of(from, to), c);
-    answers::plainly(number)
-}
-
 // Adds a PGN to the list of one pair.
 pub fn add(w: &mut [u32; WORDS], from: u8, to: u8, pgn: u32) -> Answer
     ensures { λ r. ⌜ outcome (inNumbers r) (now (w .exit)) ≡ commanded (now (w .entry)) from to (Command.Add pgn) ⌝ }
 {
-    obey(w, from, to, Command::Add(pgn))
+    answers::plainly(pairs::obey(w, pair_of(from, to), Command::Add(pgn)))
 }
 
 // Deletes a PGN from the list of one pair.
 pub fn delete(w: &mut [u32; WORDS], from: u8, to: u8, pgn: u32) -> Answer
     ensures { λ r. ⌜ outcome (inNumbers r) (now (w .exit)) ≡ commanded (now (w .entry)) from to (Command.Delete pgn) ⌝ }
 {
-    obey(w, from, to, Command::Delete(pgn))
+    answers::plainly(pairs::obey(w, pair_of(from, to), Command::Delete(pgn)))
 }
 
-// Empties the list of one pair; its mode is kept.
-pub fn clear(w: &mut [u32; WORDS], from: u8, to: u8) -> Answer
-    ensures { λ r. ⌜ outcome (inNumbers r) (now (w .exit)) ≡ commanded (now (w .entry)) from to Command.Clear ⌝ }
+// Sets the mode of one pair and empties its list, in a single command.
+pub fn renew(w: &mut [u32; WORDS], from: u8, to: u8, mode: u8) -> Answer
+    ensures { λ r. ⌜ outcome (inNumbers r) (now (w .exit)) ≡ commanded (now (w .entry)) from to (Command.Renew mode) ⌝ }
 {
-    obey(w, from, to, Command::Clear)
-}
-
-// Sets the mode of one pair, whose list is empty or whose mode it is.
-pub fn set_mode(w: &mut [u32; WORDS], from: u8, to: u8, mode: u8) -> Answer
-    ensures { λ r. ⌜ outcome (inNumbers r) (now (w .exit)) ≡ commanded (now (w .entry)) from to (Command.SetMode mode) ⌝ }
-{
-    obey(w, from, to, Command::SetMode(mode))
+    answers::plainly(pairs::obey(w, pair_of(from, to), Command::Renew(mode)))
 }
 
 // Decides on a frame from one port to another by its identifier: answer 0 with detail 1 for pass and 0 for block.

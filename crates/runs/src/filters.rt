@@ -13,8 +13,7 @@ fn call(w: &mut [u32; WORDS], what: u8, from: u8, to: u8, x: u32) -> Answer {
     match what {
         0 => ports::add(w, from, to, x),
         1 => ports::delete(w, from, to, x),
-        2 => ports::clear(w, from, to),
-        3 => ports::set_mode(w, from, to, (x % 256) as u8),
+        2 => ports::renew(w, from, to, (x % 256) as u8),
         _ => ports::decide(w, from, to, x),
     }
 }

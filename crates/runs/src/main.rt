@@ -2,7 +2,7 @@
 // come out. A case is a tag and 13 bytes, then the lists that it counts there; words go least significant byte first. An answer is written as
 // its number, its detail, and the number and position of its judgement.
 //   0                                fresh filters and an empty table; no line
-//   1 call, from, to, word           what add, delete, clear, set mode or decide answers (calls 0 to 4)
+//   1 call, from, to, word           what add, delete, renew or decide answers (calls 0 to 3)
 //   2 call, 0, 0, word               the same for all 256 times 256 port numbers: a line for each answer but 15, then how often that was
 //   3 place, word                    writes a word of the filters; no line
 //   4 identifier, length, 8 bytes    what learn answers

@@ -3,7 +3,7 @@
 use mathlib.Core.Path.{_≡_, refl, ap, _∙_}
 use mathlib.Core.Bool.{Bool, true, false, _&&_, cond}
 use mathlib.Core.List.{List, [], _∷_}
-use Rattle.words.specs.Runs.{kept, only, since, fold, Keyed}
+use Rattle.words.specs.Runs.{kept, only, since, upTo, fold, Keyed}
 
 module _ {Key E S : Type 0} (names : Key → E → Bool) (counts : List E → E → Bool) (step : S → E → S) (start : S)
     {table : List E → Key → S} (t : Keyed names counts step start table) where
@@ -30,4 +30,14 @@ fold-since step start ends again (e ∷ h) = go (ends e) refl (fold-since step s
   where
     go : (b : Bool) → ends e ≡ b → fold step start h ≡ fold step start (since ends h) → step (fold step start h) e ≡ fold step start (cond b [] (e ∷ since ends h))
     go true q i = again (fold step start h) e q
+    go false q i = ap (λ (s : _). step s e) i
+
+-- an event that makes the same of any state cuts off what was before it
+pub fold-upTo : {E S : Type 0} (step : S → E → S) (start : S) (ends : E → Bool) → ((s t : S) (e : E) → ends e ≡ true → step s e ≡ step t e)
+    → (h : List E) → fold step start h ≡ fold step start (upTo ends h)
+fold-upTo step start ends same [] = refl
+fold-upTo step start ends same (e ∷ h) = go (ends e) refl (fold-upTo step start ends same h)
+  where
+    go : (b : Bool) → ends e ≡ b → fold step start h ≡ fold step start (upTo ends h) → step (fold step start h) e ≡ fold step start (cond b (e ∷ []) (e ∷ upTo ends h))
+    go true q i = same (fold step start h) start e q
     go false q i = ap (λ (s : _). step s e) i

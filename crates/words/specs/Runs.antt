@@ -20,6 +20,11 @@ module _ {E : Type 0} where
   since p [] = []
   since p (e ∷ h) = cond (p e) [] (e ∷ since p h)
 
+  -- the same with that latest one (such as those from the last renew on)
+  abbrev pub upTo : (E → Bool) → List E → List E
+  upTo p [] = []
+  upTo p (e ∷ h) = cond (p e) (e ∷ []) (e ∷ upTo p h)
+
   -- what the events make of a start, the earliest first
   abbrev pub fold : {S : Type 0} → (S → E → S) → S → List E → S
   fold step s h = foldr (λ e t. step t e) s h
