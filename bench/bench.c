@@ -8,7 +8,7 @@
 
 #include "../include/yendrolf.h"
 
-/* The prototypes of each build: gcc2_, gcc3_ and clang2_ look widths up by halving, the same with w from the dictionary's start on. */
+/* The prototypes of each build: gcc2_, gcc3_ and clang2_. */
 #define FAST(name) gcc2_##name
 #include "fast.h"
 #undef FAST_H
@@ -17,20 +17,8 @@
 #include "fast.h"
 #undef FAST_H
 #undef FAST
-#define FAST(name) gcc2w_##name
-#include "fast.h"
-#undef FAST_H
-#undef FAST
-#define FAST(name) gcc3w_##name
-#include "fast.h"
-#undef FAST_H
-#undef FAST
 #ifdef CLANG
 #define FAST(name) clang2_##name
-#include "fast.h"
-#undef FAST_H
-#undef FAST
-#define FAST(name) clang2w_##name
 #include "fast.h"
 #endif
 
@@ -87,29 +75,18 @@ static void fill(void)
 #define CALL(name) gcc3_##name
 #define TEST(name) gcc3_##name
 #include "calls.h"
-#define CALL(name) gcc2w_##name
-#define TEST(name) gcc2w_##name
-#include "calls.h"
-#define CALL(name) gcc3w_##name
-#define TEST(name) gcc3w_##name
-#include "calls.h"
 #ifdef CLANG
 #define CALL(name) clang2_##name
 #define TEST(name) clang2_##name
-#include "calls.h"
-#define CALL(name) clang2w_##name
-#define TEST(name) clang2w_##name
 #include "calls.h"
 #endif
 
 #ifdef CLANG
 #define BUILDS 4
-#define HALVES(test) { rattle_##test, gcc2_##test, gcc3_##test, clang2_##test }
-#define WALKS(test) { rattle_##test, gcc2w_##test, gcc3w_##test, clang2w_##test }
+#define BUILT(test) { rattle_##test, gcc2_##test, gcc3_##test, clang2_##test }
 #else
 #define BUILDS 3
-#define HALVES(test) { rattle_##test, gcc2_##test, gcc3_##test }
-#define WALKS(test) { rattle_##test, gcc2w_##test, gcc3w_##test }
+#define BUILT(test) { rattle_##test, gcc2_##test, gcc3_##test }
 #endif
 static const char *const builds[] = { "Rattle", "gcc -O2", "gcc -O3", "clang -O2" };
 
@@ -118,42 +95,28 @@ static const struct test {
     uint64_t calls;
     uint64_t (*builds[BUILDS])(uint64_t);
 } tests[] = {
-    { "learn: a frame of another PGN", 2000000, HALVES(others) },
-    { "learn: a message", 400000, HALVES(learn) },
-    { "forget", 400000, HALVES(forget) },
-    { "count", 800000, HALVES(count) },
-    { "judge 8", 20000, HALVES(judge_8) },
-    { "judge 8, C walks", 20000, WALKS(judge_8) },
-    { "judge 30", 5000, HALVES(judge_30) },
-    { "judge 30, C walks", 5000, WALKS(judge_30) },
-    { "judge 64", 2400, HALVES(judge_64) },
-    { "judge 64, C walks", 2400, WALKS(judge_64) },
-    { "pack 8", 16000, HALVES(pack_8) },
-    { "pack 8, C walks", 16000, WALKS(pack_8) },
-    { "pack 30", 4000, HALVES(pack_30) },
-    { "pack 30, C walks", 4000, WALKS(pack_30) },
-    { "pack 64", 2000, HALVES(pack_64) },
-    { "pack 64, C walks", 2000, WALKS(pack_64) },
-    { "pack one at the last bits", 40000, HALVES(pack_1) },
-    { "pack one at the last bits, C walks", 40000, WALKS(pack_1) },
-    { "read 8", 16000, HALVES(read_8) },
-    { "read 8, C walks", 16000, WALKS(read_8) },
-    { "read 30", 4000, HALVES(read_30) },
-    { "read 30, C walks", 4000, WALKS(read_30) },
-    { "read 64", 2000, HALVES(read_64) },
-    { "read 64, C walks", 2000, WALKS(read_64) },
-    { "read one at the last bits", 40000, HALVES(read_1) },
-    { "read one at the last bits, C walks", 40000, WALKS(read_1) },
-    { "find one of 8", 20000, HALVES(find) },
-    { "find one of 8, C walks", 20000, WALKS(find) },
-    { "parameter at a position of 8", 80000, HALVES(parameter) },
-    { "parameter at a position of 8, C walks", 80000, WALKS(parameter) },
-    { "decide, an empty list", 1600000, HALVES(decide0) },
-    { "decide, a list of 32", 400000, HALVES(decide32) },
-    { "renew", 1600000, HALVES(renew) },
-    { "feed, a record", 1000000, HALVES(feed) },
-    { "finish, 16 keys", 800, HALVES(finish) },
-    { "finish, 16 keys, C walks", 800, WALKS(finish) },
+    { "learn: a frame of another PGN", 2000000, BUILT(others) },
+    { "learn: a message", 400000, BUILT(learn) },
+    { "forget", 400000, BUILT(forget) },
+    { "count", 800000, BUILT(count) },
+    { "judge 8", 20000, BUILT(judge_8) },
+    { "judge 30", 5000, BUILT(judge_30) },
+    { "judge 64", 2400, BUILT(judge_64) },
+    { "pack 8", 16000, BUILT(pack_8) },
+    { "pack 30", 4000, BUILT(pack_30) },
+    { "pack 64", 2000, BUILT(pack_64) },
+    { "pack one at the last bits", 40000, BUILT(pack_1) },
+    { "read 8", 16000, BUILT(read_8) },
+    { "read 30", 4000, BUILT(read_30) },
+    { "read 64", 2000, BUILT(read_64) },
+    { "read one at the last bits", 40000, BUILT(read_1) },
+    { "find one of 8", 20000, BUILT(find) },
+    { "parameter at a position of 8", 80000, BUILT(parameter) },
+    { "decide, an empty list", 1600000, BUILT(decide0) },
+    { "decide, a list of 32", 400000, BUILT(decide32) },
+    { "renew", 1600000, BUILT(renew) },
+    { "feed, a record", 1000000, BUILT(feed) },
+    { "finish, 16 keys", 800, BUILT(finish) },
 };
 
 static double seconds(void)

@@ -2,10 +2,19 @@
 -- Assumes nothing.
 use mathlib.Core.Path.{_≡_, refl, sym, ap, _∙_}
 use mathlib.Core.List.{List, []}
+use mathlib.Core.Bool.{Bool}
 use mathlib.Core.Option.{none, some, Option·some-injective, Option·none-ne-some, Option·some-ne-none}
 use Prim.Native.Nat.{ℕ, _≤_, _<_}
+use native.Mathlib.Decide.{decLt}
 use native.Mathlib.Omega.{arith}
+use lib.Dec.{eqb, leb}
 use lib.ListN.{length, getD}
+use borrow.Author.Tests.{eq-eqb, ne-eqb}
+use Rattle.words.specs.First.{first}
+use Rattle.words.specs.Halve.{turns, halved}
+use Rattle.words.proofs.First.{first-below}
+use Rattle.words.proofs.Tests.{never}
+use Rattle.words.proofs.Halve.{halved-key}
 use Rattle.rowrule.specs.Rows.{table, rowCount, rowAt, pairs}
 use Rattle.rowrule.proofs.Table.{size, table-ruled, pairs-size, pairs-at}
 use Rattle.dictionary.specs.declared.Found.{Found}
@@ -52,6 +61,27 @@ number-some s i e = let f = at-found (looked table s) (sym e) in (omega (arith, 
 pub number-none : (s : ℕ) → none ≡ numberOf s → Lacks table s rowCount × (widthOf s ≡ 0)
 unfolding numberOf widthOf
 number-none s e = let f = at-none (looked table s) (sym e) in (λ k h. f .0 k (omega (arith, size)), f .1)
+
+-- ---- halving
+
+-- what halving asks of a row: its SPN is not below
+abbrev pub notBelow : ℕ → ℕ → Bool
+notBelow s i = leb s (rowAt i .spn)
+
+-- 140 rows take 8 turns
+pub table-turns : turns rowCount ≡ 8
+unfolding turns first
+table-turns = refl
+
+-- where the row that halving comes to has not the SPN, no row has it
+pub halved-nowhere : (s : ℕ) → (rowAt (halved (notBelow s) rowCount) .spn ≡ s → ⊥) → none ≡ numberOf s
+halved-nowhere s other = number-nowhere s (λ k h has. never (eq-eqb (rowAt k .spn) s has) (first-below (λ i. eqb (rowAt i .spn) s) rowCount k (omega (arith, none-has))))
+  where
+    rises : (i j : ℕ) → i ≤ j → j < rowCount → rowAt i .spn ≤ rowAt j .spn
+    rises i j l h = elim (decLt i j) [ yes b ↦ omega (arith, table-rising i j b h) | no b ↦ let e : i ≡ j = omega arith in rw e (omega arith) ]
+
+    none-has : first (λ i. eqb (rowAt i .spn) s) rowCount ≡ rowCount
+    none-has = rw (ne-eqb (rowAt (halved (notBelow s) rowCount) .spn) s other) at (halved-key (λ i. rowAt i .spn) rowCount s (omega arith) rises)
 
 -- the rows as they are lent
 module _ (ps : List (List ℕ)) (e : ps ≡ pairs) where

@@ -1,6 +1,7 @@
 pub mod Tests
 pub mod First
 pub mod Lowest
+pub mod Halve
 pub mod Lists
 pub mod Rows
 pub mod Slots

@@ -1,4 +1,5 @@
 pub mod First
+pub mod Halve
 pub mod Lists
 pub mod Rows
 pub mod Slots
