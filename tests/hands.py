@@ -184,7 +184,8 @@ def is_running(pid):
 def stopped(number, which):
     """The script or the program gets a signal while the log is waited for."""
     reader, writer = os.pipe()
-    child = subprocess.Popen(["./list"], stdin=reader, stdout=subprocess.PIPE, stderr=subprocess.PIPE, cwd=ROOT)
+    # a shell starts what runs in its background with SIGINT ignored, and a script cannot take that back
+    child = subprocess.Popen(["./list"], stdin=reader, stdout=subprocess.PIPE, stderr=subprocess.PIPE, cwd=ROOT, preexec_fn=lambda: signal.signal(signal.SIGINT, signal.SIG_DFL))
     os.close(reader)
     program = program_of(child)
     os.kill(child.pid if which == "script" else program, number)
