@@ -55,7 +55,8 @@ static struct frame frames[FRAMES];
 static uint32_t other_ids[FRAMES];
 static uint8_t records[RECORDS * 13];
 static uint32_t numbers[YENDROLF_MOST_NUMBERS];
-static uint8_t payload[YENDROLF_MOST_BYTES];
+static uint8_t payload[YENDROLF_MOST_BYTES], states[YENDROLF_MOST_NUMBERS];
+static uint32_t asked_spns[FRAMES], asked_numbers[FRAMES];
 
 /* What pack and read find, the same for each run; 1 fits every width. */
 static void fill(void)
@@ -63,6 +64,7 @@ static void fill(void)
     for (unsigned i = 0; i < YENDROLF_MOST_NUMBERS; i++)
         numbers[i] = 1;
     memset(payload, 0, sizeof payload);
+    memset(states, 0, sizeof states);
 }
 
 #define MEASURED __attribute__((unused)) static
@@ -112,6 +114,8 @@ static const struct test {
     { "read one at the last bits", 40000, BUILT(read_1) },
     { "find one of 8", 20000, BUILT(find) },
     { "parameter at a position of 8", 80000, BUILT(parameter) },
+    { "meaning", 400000, BUILT(mean) },
+    { "scaled", 400000, BUILT(scale) },
     { "decide, an empty list", 1600000, BUILT(decide0) },
     { "decide, a list of 32", 400000, BUILT(decide32) },
     { "renew", 1600000, BUILT(renew) },
@@ -290,6 +294,11 @@ static void prepare(void)
             r[j] = (uint8_t)(id >> 8 * j);
         r[4] = 8;
         memcpy(r + 5, f.data, 8);
+    }
+    for (unsigned i = 0; i < FRAMES; i++) {   /* what meaning and scaled are asked: any row, and any number of its width */
+        unsigned row = any() % ENTRIES;
+        asked_spns[i] = i % 8 ? dictionary[row].spn : any() % 4096 + 4096;
+        asked_numbers[i] = any() & (uint32_t)((1ull << dictionary[row].width) - 1);
     }
 }
 

@@ -67,7 +67,8 @@ MEASURED uint64_t TEST(count)(uint64_t n)
         for (uint64_t i = 0; i < n; i++) { \
             struct map *m = &maps_##kind[i % MAPS]; \
             payload[i % m->bytes] = (uint8_t)i; \
-            sum += CALL(table_read)(words, 38, 39, (uint8_t)(FIRST_##kind + i % MAPS), payload, m->bytes, numbers, m->n).detail + numbers[i % m->n]; \
+            sum += CALL(table_read)(words, 38, 39, (uint8_t)(FIRST_##kind + i % MAPS), payload, m->bytes, numbers, m->n, states, m->n).detail \
+                + numbers[i % m->n] + states[i % m->n]; \
         } \
         return sum; \
     }
@@ -93,6 +94,27 @@ MEASURED uint64_t TEST(parameter)(uint64_t n)
     for (uint64_t i = 0; i < n; i++) {
         yendrolf_parameter got = CALL(table_parameter_at)(box.table, 38, 39, (uint8_t)(FIRST_8 + i % MAPS), (uint8_t)(1 + i % 8));
         sum += got.spn + got.start + got.width;
+    }
+    return sum;
+}
+
+/* One SPN in eight is not in the dictionary. */
+MEASURED uint64_t TEST(mean)(uint64_t n)
+{
+    uint64_t sum = 0;
+    for (uint64_t i = 0; i < n; i++) {
+        yendrolf_meant got = CALL(meaning)(asked_spns[i % FRAMES]);
+        sum += (uint64_t)got.offset + got.resolution + got.width + got.kind;
+    }
+    return sum;
+}
+
+MEASURED uint64_t TEST(scale)(uint64_t n)
+{
+    uint64_t sum = 0;
+    for (uint64_t i = 0; i < n; i++) {
+        yendrolf_value got = CALL(scaled)(asked_spns[i % FRAMES], asked_numbers[i % FRAMES]);
+        sum += (uint64_t)got.value + got.kind + got.state;
     }
     return sum;
 }

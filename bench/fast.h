@@ -17,9 +17,11 @@ yendrolf_told FAST(table_judge)(const uint64_t *table, uint8_t source, uint8_t d
 yendrolf_told FAST(table_pack)(const uint64_t *table, uint8_t source, uint8_t destination, uint8_t k, const uint32_t *numbers, size_t count,
     uint8_t *payload, size_t size);
 yendrolf_told FAST(table_read)(const uint64_t *table, uint8_t source, uint8_t destination, uint8_t k, const uint8_t *payload, size_t size,
-    uint32_t *numbers, size_t room);
+    uint32_t *numbers, size_t room, uint8_t *states, size_t places);
 yendrolf_found FAST(table_find)(const uint64_t *table, uint8_t source, uint8_t destination, uint8_t k, uint32_t spn);
 yendrolf_parameter FAST(table_parameter_at)(const uint64_t *table, uint8_t source, uint8_t destination, uint8_t k, uint8_t position);
+yendrolf_meant FAST(meaning)(uint32_t spn);
+yendrolf_value FAST(scaled)(uint32_t spn, uint32_t number);
 yendrolf_key FAST(table_first_key)(const uint64_t *table);
 yendrolf_key FAST(table_next_key)(const uint64_t *table, uint8_t source, uint8_t destination, uint8_t k);
 yendrolf_log FAST(start_log)(void);

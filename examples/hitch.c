@@ -1,6 +1,7 @@
-/* A header's box in C, from its start to a day's work: it learns document 01's case A from two frames, judges it, packs and reads a payload, finds a
-   parameter, meets a contradiction and forgets, lists a log, and keeps an engine's frames off one port. examples/run builds it, runs it, and compares what it
+/* A header's box in C, from its start to a day's work: it learns document 01's case A from two frames, judges it, packs and reads a payload, tells a pressure from
+   'not available', finds a parameter, meets a contradiction and forgets, lists a log, and keeps an engine's frames off one port. examples/run builds it, runs it, and compares what it
    prints with examples/hitch.txt. */
+#include <inttypes.h>
 #include <stdio.h>
 
 #include "../include/yendrolf.h"
@@ -13,6 +14,20 @@ static void say(const char *what, yendrolf_told told)
     if (told.judgement)
         printf(", judgement %u at %u", told.judgement, told.position);
     printf("\n");
+}
+
+/* A number of an SPN in its unit, with three decimals, or the word for it where it is no reading. docs/UNITS.md has the units. */
+static void reading(const char *what, uint32_t spn, uint32_t number, const char *unit)
+{
+    static const char *const words[] = { "", "reserved", "error", "not available" };
+    yendrolf_value worth = yendrolf_scaled(spn, number);
+    if (worth.state != YENDROLF_VALID) {
+        printf("%-34s %s\n", what, words[worth.state]);
+        return;
+    }
+    const char *sign = worth.value < 0 ? "-" : "";   /* -500 is -0.500 */
+    uint64_t thousandths = (uint64_t)(worth.value < 0 ? -worth.value : worth.value);
+    printf("%-34s %s%" PRIu64 ".%03" PRIu64 " %s\n", what, sign, thousandths / 1000, thousandths % 1000, unit);
 }
 
 /* A frame as a record of a log: identifier least significant byte first, length, 8 data bytes. */
@@ -46,7 +61,7 @@ int main(void)
     say("learn from an engine's frame", yendrolf_learn(&box, 0x18fee300, 8, first));
 
     uint32_t numbers[YENDROLF_MOST_NUMBERS] = { 40, 1 };
-    uint8_t payload[YENDROLF_MOST_BYTES];
+    uint8_t payload[YENDROLF_MOST_BYTES], states[YENDROLF_MOST_NUMBERS];
     yendrolf_told packed = yendrolf_pack(&box, 38, 39, 1, numbers, 2, payload, sizeof payload);
     say("pack 40 and 1", packed);
     printf("%-34s", "the payload");
@@ -56,8 +71,18 @@ int main(void)
     numbers[1] = 4;
     say("pack 40 and 4: 1519 has 2 bits", yendrolf_pack(&box, 38, 39, 1, numbers, 2, payload, sizeof payload));
     numbers[0] = numbers[1] = 0;
-    say("read", yendrolf_read(&box, 38, 39, 1, payload, packed.detail, numbers, YENDROLF_MOST_NUMBERS));
+    say("read", yendrolf_read(&box, 38, 39, 1, payload, packed.detail, numbers, YENDROLF_MOST_NUMBERS, states, sizeof states));
     printf("%-34s %u and %u\n", "the numbers", numbers[0], numbers[1]);
+    printf("%-34s %u and %u\n", "their states", states[0], states[1]);
+    reading("the lift pressure", 1517, numbers[0], "kPa");
+    payload[0] = 0xff;   /* the sender has no pressure, and it is not 12,750 kPa */
+    say("read without a pressure", yendrolf_read(&box, 38, 39, 1, payload, packed.detail, numbers, YENDROLF_MOST_NUMBERS, states, sizeof states));
+    printf("%-34s %u and %u\n", "the numbers", numbers[0], numbers[1]);
+    printf("%-34s %u and %u\n", "their states", states[0], states[1]);
+    reading("the lift pressure", 1517, numbers[0], "kPa");
+    reading("a tilt of 120 counts (SPN 1539)", 1539, 120, "deg");
+    yendrolf_meant meant = yendrolf_meaning(1539);
+    printf("%-34s width %u, resolution %u, offset %" PRId64 ", kind %u\n", "SPN 1539, in thousandths", meant.width, meant.resolution, meant.offset, meant.kind);
     yendrolf_found found = yendrolf_find(&box, 38, 39, 1, 1519);
     say("find 1519", found.told);
     printf("%-34s position %u, start %u, width %u\n", "it stands at", found.position, found.start, found.width);

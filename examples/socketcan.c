@@ -59,19 +59,26 @@ static void learn(uint32_t identifier, const struct can_frame *f)
     yendrolf_learn(&box, identifier, f->can_dlc, f->data);
 }
 
-/* A configured message (PGN 45056 + 256 k, so PF 176 + k) whose map is usable: its numbers. Maps that use transport are longer than a frame: answer 13. */
+/* A configured message (PGN 45056 + 256 k, so PF 176 + k) whose map is usable: its numbers, with the word for it where one is no reading. Maps that use transport are
+   longer than a frame: answer 13. */
 static void print_payload(uint32_t identifier, const struct can_frame *f)
 {
+    static const char *const words[] = { "", "reserved", "error", "not available" };
     uint32_t numbers[YENDROLF_MOST_NUMBERS], pf = identifier >> 16 & 0xff;
+    uint8_t states[YENDROLF_MOST_NUMBERS];
     uint8_t source = (uint8_t)identifier, destination = (uint8_t)(identifier >> 8), k = (uint8_t)(pf - 176);
     if ((identifier & 0x03000000) != 0 || pf < 177 || pf > 191)
         return;
-    yendrolf_told told = yendrolf_read(&box, source, destination, k, f->data, f->can_dlc, numbers, YENDROLF_MOST_NUMBERS);
+    yendrolf_told told = yendrolf_read(&box, source, destination, k, f->data, f->can_dlc, numbers, YENDROLF_MOST_NUMBERS, states, sizeof states);
     if (told.number != YENDROLF_DONE)
         return;
     printf("%u %u %u:", source, destination, k);
-    for (uint32_t i = 0; i < told.detail; i++)
-        printf(" %u", numbers[i]);
+    for (uint32_t i = 0; i < told.detail; i++) {
+        if (states[i] == YENDROLF_VALID)
+            printf(" %u", numbers[i]);
+        else
+            printf(" (%s)", words[states[i]]);
+    }
     printf("\n");
 }
 

@@ -1,5 +1,5 @@
-/* The box for C: learning Configuration Identification Messages, judging maps, packing and reading payloads, the listing of a log, and the filter of a
- * bridge of four ports. examples/hitch.c has the calls at work; examples/socketcan.c is a loop on Linux' CAN sockets.
+/* The box for C: learning Configuration Identification Messages, judging maps, packing and reading payloads, what a number means, the listing of a log, and
+ * the filter of a bridge of four ports. examples/hitch.c has the calls at work; examples/socketcan.c is a loop on Linux' CAN sockets.
  *
  * Link with the archive that `rt staticlib firmware` writes (target/staticlib/libfirmware.a). Every function of it is proved against its contract
  * (crates/firmware); this header is not: tests/header and tests/compare/run compare it with the archive.
@@ -7,7 +7,7 @@
  * What it needs:
  * - x86-64 Linux, no other machine, and a compiler of C99 or C++11 or later.
  * - memcpy and memset, which the archive's code calls and which C's library has. It calls nobody else, allocates nothing and keeps nothing between calls.
- * - Stack below the caller's own, in bytes: finish 3,200; judge, pack, read and find 2,500; parameter_at 1,600; every other call 400. It is a bound from the
+ * - Stack below the caller's own, in bytes: finish 3,200; judge, pack, read and find 2,500; parameter_at, meaning and scaled 1,700; every other call 400. It is a bound from the
  *   archive's code (tests/stack), with 120 for the header's own function where the compiler does not inline it; what memcpy and memset take is not in it.
  *
  * How to call it:
@@ -20,6 +20,7 @@
  * - An identifier is the 29 bits and nothing else. SocketCAN has flags above them: give `can_id & CAN_EFF_MASK`, and give only frames with CAN_EFF_FLAG and
  *   without CAN_RTR_FLAG and CAN_ERR_FLAG. A frame of 11 bits would be taken for another's of 29, and a remote frame has no data.
  * - Look at an answer's number before its detail. Of yendrolf_decide too: pass is number 0 with detail 1; a refusal's detail is 0, and no decision.
+ * - Look at a number's state before the number: only a valid one is a reading. 255 of one byte is 'not available', and no pressure.
  * - Forget a key after answer 10: it stays in conflict, and no later message mends it; its sender has to say the whole map again. And forget every key
  *   that has an address, as source or as destination, when the address changed hands: what is held was another's map (SAE J1939-74, 5.2.3).
  *
@@ -43,7 +44,7 @@ extern "C" {
 #endif
 
 /* The version of the calls: one more when a caller must be built again or changed. yendrolf_version() is that of the archive. */
-#define YENDROLF_VERSION 2u
+#define YENDROLF_VERSION 3u
 
 /* The numbers of answers (document 01, "Answer numbers"). */
 enum yendrolf_answer {
@@ -81,6 +82,24 @@ enum yendrolf_judgement {
     YENDROLF_OVERLAPS = 6,              /* it shares a bit with an earlier one */
     YENDROLF_BEYOND = 7,                /* start + width above 14280 */
     YENDROLF_TRANSPORT = 8              /* transport flag yes with a payload of 8 bytes, or no with a longer one */
+};
+
+/* The kind of a number, by the width of its SPN: which row of SAE J1939-71's table says its state. */
+enum yendrolf_kind {
+    YENDROLF_NO_KIND = 0,               /* the dictionary does not have the SPN */
+    YENDROLF_TWO_BITS = 1,              /* 0 and 1 are valid, 2 is error, 3 not available */
+    YENDROLF_ONE_BYTE = 2,              /* 0 to 250 are valid, 251 to 253 reserved, 254 is error, 255 not available */
+    YENDROLF_TWO_BYTES = 3,             /* the same of its top byte */
+    YENDROLF_FOUR_BYTES = 4,            /* the same of its top byte */
+    YENDROLF_OTHER_WIDTH = 5            /* any other width has no row: always valid */
+};
+
+/* The state of a number. One that needs more than its width is as the largest of its width. */
+enum yendrolf_state {
+    YENDROLF_VALID = 0,
+    YENDROLF_RESERVED = 1,
+    YENDROLF_ERROR = 2,
+    YENDROLF_NOT_AVAILABLE = 3
 };
 
 /* The mode of a pair of ports, and the detail of a decision. */
@@ -140,6 +159,23 @@ typedef struct {
     uint32_t width;
 } yendrolf_parameter;
 
+/* What the numbers of an SPN mean: `kind` is of enum yendrolf_kind, resolution and offset are in thousandths of the SPN's unit (docs/UNITS.md has the units). All
+   are 0 where the dictionary does not have the SPN. */
+typedef struct {
+    int64_t offset;
+    uint32_t resolution;
+    uint32_t width;
+    uint32_t kind;
+} yendrolf_meant;
+
+/* What a number is worth: `value` in thousandths of the SPN's unit, `kind` of enum yendrolf_kind, `state` of enum yendrolf_state. The value is 0 where the state is not
+   YENDROLF_VALID, or the dictionary does not have the SPN. */
+typedef struct {
+    int64_t value;
+    uint32_t kind;
+    uint32_t state;
+} yendrolf_value;
+
 /* A held key, or that there is none: `held` is 1 or 0, and the others are 0 with it. */
 typedef struct {
     uint8_t held;
@@ -183,6 +219,15 @@ YENDROLF_CHECK_FIELD(parameter, told, 0, 16);
 YENDROLF_CHECK_FIELD(parameter, spn, 16, 4);
 YENDROLF_CHECK_FIELD(parameter, start, 20, 4);
 YENDROLF_CHECK_FIELD(parameter, width, 24, 4);
+YENDROLF_CHECK_STRUCT(meant, 24);
+YENDROLF_CHECK_FIELD(meant, offset, 0, 8);
+YENDROLF_CHECK_FIELD(meant, resolution, 8, 4);
+YENDROLF_CHECK_FIELD(meant, width, 12, 4);
+YENDROLF_CHECK_FIELD(meant, kind, 16, 4);
+YENDROLF_CHECK_STRUCT(value, 16);
+YENDROLF_CHECK_FIELD(value, value, 0, 8);
+YENDROLF_CHECK_FIELD(value, kind, 8, 4);
+YENDROLF_CHECK_FIELD(value, state, 12, 4);
 YENDROLF_CHECK_STRUCT(key, 4);
 YENDROLF_CHECK_FIELD(key, held, 0, 1);
 YENDROLF_CHECK_FIELD(key, source, 1, 1);
@@ -208,7 +253,7 @@ yendrolf_told yendrolf_table_judge(const uint64_t *table, uint8_t source, uint8_
 yendrolf_told yendrolf_table_pack(const uint64_t *table, uint8_t source, uint8_t destination, uint8_t k, const uint32_t *numbers, size_t count,
     uint8_t *payload, size_t size);
 yendrolf_told yendrolf_table_read(const uint64_t *table, uint8_t source, uint8_t destination, uint8_t k, const uint8_t *payload, size_t size,
-    uint32_t *numbers, size_t room);
+    uint32_t *numbers, size_t room, uint8_t *states, size_t places);
 yendrolf_found yendrolf_table_find(const uint64_t *table, uint8_t source, uint8_t destination, uint8_t k, uint32_t spn);
 yendrolf_parameter yendrolf_table_parameter_at(const uint64_t *table, uint8_t source, uint8_t destination, uint8_t k, uint8_t position);
 yendrolf_key yendrolf_table_first_key(const uint64_t *table);
@@ -266,12 +311,13 @@ static inline yendrolf_told yendrolf_pack(const yendrolf_box *box, uint8_t sourc
     return yendrolf_table_pack(box->table, source, destination, k, numbers, count, payload, size);
 }
 
-/* Reads a payload of `size` bytes into the first n of `room` numbers; further ones keep what they held. 11; 12; 13 where `size` is not L or `room` is
-   below n; or 0 with n as its detail. */
+/* Reads a payload of `size` bytes into the first n of `room` numbers, and the state of each (enum yendrolf_state) into the first n of `places` states; further ones
+   keep what they held. 11; 12; 13 where `size` is not L, or `room` or `places` is below n; or 0 with n as its detail. The numbers are as they were packed,
+   whatever their state. */
 static inline yendrolf_told yendrolf_read(const yendrolf_box *box, uint8_t source, uint8_t destination, uint8_t k, const uint8_t *payload, size_t size,
-    uint32_t *numbers, size_t room)
+    uint32_t *numbers, size_t room, uint8_t *states, size_t places)
 {
-    return yendrolf_table_read(box->table, source, destination, k, payload, size, numbers, room);
+    return yendrolf_table_read(box->table, source, destination, k, payload, size, numbers, room, states, places);
 }
 
 /* Finds an SPN in a key's map: 11, 12, 18, or 0 with position, start and width. */
@@ -297,6 +343,14 @@ static inline yendrolf_key yendrolf_next_key(const yendrolf_box *box, uint8_t so
 {
     return yendrolf_table_next_key(box->table, source, destination, k);
 }
+
+/* ---- what a number means, by its SPN. No box is needed: it is the dictionary that knows. */
+
+/* Width, resolution, offset and kind of an SPN. */
+yendrolf_meant yendrolf_meaning(uint32_t spn);
+
+/* What a number of an SPN is worth: number * resolution + offset, exactly and with its sign, and its state. yendrolf_parameter_at says which SPN stands at a position. */
+yendrolf_value yendrolf_scaled(uint32_t spn, uint32_t number);
 
 /* ---- the listing of a log: start, then feed each chunk of records (13 bytes each: identifier least significant byte first, length, 8 data bytes), then
    finish. The box learns from the log as from frames. */

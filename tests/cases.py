@@ -1,7 +1,8 @@
-"""What the programs `vectors` and `runs` are run on, and what the model says they must write."""
+"""What the programs `vectors`, `runs` and `meanings` are run on, and what the model says they must write."""
 import keys
 import lists
 import logs
+import meanings
 import pairs
 import rooms
 from dice import Dice
@@ -11,6 +12,7 @@ def files():
     """Every file, as its path under crates/ and its bytes."""
     yield from written("vectors", [*rooms.cases(Dice(74)), *lists.cases(Dice(2010))])
     yield from written("runs", [*pairs.cases(Dice(31)), *keys.cases(Dice(1939)), *logs.cases(Dice(13))])
+    yield from written("meanings", [*meanings.cases(Dice(71))])
 
 
 def written(program, cases):

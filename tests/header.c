@@ -22,11 +22,39 @@ static uint32_t answer_or_judgement(yendrolf_told told)
     }
 }
 
+/* How many decimals a value needs, and whether it is one at all. */
+static uint32_t decimals(yendrolf_value worth)
+{
+    uint32_t digits = 3;
+    switch (worth.state) {
+    case YENDROLF_VALID: break;
+    case YENDROLF_RESERVED: case YENDROLF_ERROR: case YENDROLF_NOT_AVAILABLE: return 4;
+    default: return 5;
+    }
+    for (int64_t value = worth.value; digits > 0 && value % 10 == 0; value /= 10)
+        digits--;
+    return digits;
+}
+
+static uint32_t bits_of(yendrolf_meant meant)
+{
+    switch (meant.kind) {
+    case YENDROLF_NO_KIND: return 0;
+    case YENDROLF_TWO_BITS: return 2;
+    case YENDROLF_ONE_BYTE: return 8;
+    case YENDROLF_TWO_BYTES: return 16;
+    case YENDROLF_FOUR_BYTES: return 32;
+    case YENDROLF_OTHER_WIDTH: return meant.width;
+    default: return 99;
+    }
+}
+
 int main(void)
 {
     static const uint8_t data[YENDROLF_FRAME_BYTES] = { 0x00, 0xb1, 0x00, 0xed, 0x05, 0x01, 0x81, 1 };
     static uint8_t payload[YENDROLF_MOST_BYTES], text[YENDROLF_LISTING_BYTES], record[YENDROLF_RECORD_BYTES];
     static uint32_t numbers[YENDROLF_MOST_NUMBERS];
+    static uint8_t states[YENDROLF_MOST_NUMBERS];
     uint32_t sum = 0, held = 0;
     yendrolf_log log = yendrolf_start_log();
     if (yendrolf_version() != YENDROLF_VERSION)
@@ -39,15 +67,23 @@ int main(void)
         uint32_t n = yendrolf_count(&box, key.source, key.destination, key.k);   /* what a key has goes back in as it is */
         yendrolf_told judged = yendrolf_judge(&box, key.source, key.destination, key.k);
         yendrolf_told packed = yendrolf_pack(&box, key.source, key.destination, key.k, numbers, n, payload, sizeof payload);
-        yendrolf_told read = yendrolf_read(&box, key.source, key.destination, key.k, payload, packed.detail, numbers, YENDROLF_MOST_NUMBERS);
+        yendrolf_told read = yendrolf_read(&box, key.source, key.destination, key.k, payload, packed.detail, numbers, YENDROLF_MOST_NUMBERS, states, sizeof states);
         yendrolf_found found = yendrolf_find(&box, key.source, key.destination, key.k, 1517);
         yendrolf_parameter parameter = yendrolf_parameter_at(&box, key.source, key.destination, key.k, 1);
         if (parameter.told.number != YENDROLF_DONE || parameter.spn != 1517 || parameter.start != 0 || parameter.width != 8)
+            return 1;
+        if (yendrolf_scaled(parameter.spn, numbers[0]).state != states[0])   /* so does what a position has */
             return 1;
         sum += judged.judgement + answer_or_judgement(read) + found.told.number + found.position + found.start + found.width;
         sum += answer_or_judgement(yendrolf_forget(&box, key.source, key.destination, key.k));
         held++;
     }
+    yendrolf_meant tilt = yendrolf_meaning(1539);
+    yendrolf_value level = yendrolf_scaled(1539, 120);
+    if (tilt.width != 8 || tilt.resolution != 100 || tilt.offset != -12500 || bits_of(tilt) != tilt.width || bits_of(yendrolf_meaning(0)) != 0)
+        return 1;
+    if (level.value != -500 || level.kind != tilt.kind || level.state != YENDROLF_VALID || decimals(level) != 1 || decimals(yendrolf_scaled(1539, 255)) != 4)
+        return 1;
     log = yendrolf_feed(&box, log, record, sizeof record);
     sum += (uint32_t)(log.records + log.refused + log.other + log.left) + log.carry[0];
     sum += answer_or_judgement(yendrolf_finish(&box, log, text, sizeof text));

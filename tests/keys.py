@@ -1,5 +1,6 @@
 """The cases of the learned table: learning, forgetting, the held keys, what is asked about a key, and listings. Tags 4 to 15 of the
 program `runs`. tests/logs.py has more of the listings."""
+import meanings
 import model
 import rooms
 from dice import TOP, case, line, word, words
@@ -88,10 +89,10 @@ class Run:
         self.cases.append((given + words(numbers) + bytes(buffer), [line(*answer, bytes(after).hex())]))
         return answer.number, after
 
-    def read(self, key, payload, room):
-        answer, after = self.says("read", key, payload, room)
-        given = case(13, bytes(key) + bytes([len(room)]) + len(payload).to_bytes(2, "little"))
-        self.cases.append((given + words(room) + bytes(payload), [line(*answer, *after)]))
+    def read(self, key, payload, room, states):
+        answer, numbers, said = self.says("read", key, payload, room, states)
+        given = case(13, bytes(key) + bytes([len(room)]) + len(payload).to_bytes(2, "little") + bytes([len(states)]))
+        self.cases.append((given + words(room) + bytes(payload) + bytes(states), [line(*answer, *numbers, bytes(said).hex())]))
 
     def rows(self, key):
         """The key's (SPN, start, width) where its map is usable."""
@@ -115,7 +116,7 @@ class Run:
         if rows is None:
             self.find(key, 1517)
             self.pack(key, [1, 2], dice.bytes(9))
-            self.read(key, dice.bytes(8), [1, 2, 3])
+            self.read(key, dice.bytes(8), [1, 2, 3], [1, 2, 3])
             return
         self.find(key, *(row[0] for row in rows), 0, 1, 521, TOP, dice.one_of(KNOWN))
         numbers = [number_for(dice, width) for spn, start, width in rows]
@@ -123,15 +124,20 @@ class Run:
         for further in (0, 3):
             number, after = self.pack(key, numbers, dice.bytes(size + further))
             assert number == 0
-        self.read(key, after[:size], [dice.below(2**32) for _ in rows])
-        self.read(key, dice.bytes(size), [dice.below(2**32) for _ in range(len(rows) + 2)])
+        self.read(key, after[:size], [dice.below(2**32) for _ in rows], dice.bytes(len(rows)))
+        self.read(key, dice.bytes(size), [dice.below(2**32) for _ in range(len(rows) + 2)], dice.bytes(len(rows) + 3))
+        placed = [row[1:] for row in rows]
+        edges = [dice.one_of([number for number in meanings.edges(width) if number < 2**width]) for start, width in placed]
+        self.read(key, model.pack_places(placed, edges, [0] * size)[1], [7] * len(rows), [7] * (len(rows) + dice.below(4)))
         self.wrong(dice, key, rows, numbers, size)
 
     def wrong(self, dice, key, rows, numbers, size):
         for given, room in ((numbers[1:], size), (numbers + [0], size), (numbers, size - 1), (numbers, 0), ([], size)):
             self.pack(key, given, dice.bytes(room))
-        for payload, room in ((size - 1, len(rows)), (size + 1, len(rows)), (size, max(len(rows) - 1, 0)), (0, len(rows))):
-            self.read(key, dice.bytes(payload), [7] * room)
+        n = len(rows)
+        for payload, room, states in ((size - 1, n, n), (size + 1, n, n), (size, n - 1, n), (size, n, n - 1), (size, n + 2, n - 1), (size, n - 1, n + 2),
+                                      (size, n, 0), (size - 1, n, n - 1), (0, n, n)):
+            self.read(key, dice.bytes(payload), [7] * room, [9] * states)
         narrow = [p for p, (spn, start, width) in enumerate(rows) if width < 32]
         for wide in (narrow[:1], narrow[-1:], narrow[1::2]):
             spoiled = list(numbers)
@@ -196,14 +202,16 @@ def examples(dice):
     run.pack(a[0][:3], [40, 1], [0] * 8)
     run.pack(a[0][:3], [40, 4], [7] * 8)
     run.pack(a[0][:3], [256, 4], [7] * 10)
-    run.read(a[0][:3], [0x28, 0xFD] + [255] * 6, [7, 7])
+    run.read(a[0][:3], [0x28, 0xFD] + [255] * 6, [7, 7], [7, 7])
+    for first, second in ((250, 0), (251, 1), (253, 2), (254, 3), (255, 2)):
+        run.read(a[0][:3], [first, 0xFC + second] + [255] * 6, [7, 7, 7], [7, 7, 7])
     run.find(a[0][:3], 1517, 1519, 1518, 0)
     run.parameter(a[0][:3], 1, 2, 0, 3)
     b = [EXAMPLE._replace(k=2, position=2, start=4), EXAMPLE._replace(k=2, spn=1519)]
     run.learn(*b)
     run.judge(b[0][:3])
     run.pack(b[0][:3], [2, 0xA5], [0] * 9)
-    run.read(b[0][:3], [0x5E, 0xFA] + [255] * 6, [7, 7, 7])
+    run.read(b[0][:3], [0x5E, 0xFA] + [255] * 6, [7, 7, 7], [7, 7])
     for k, said in enumerate(([(1517, 0), (1519, 7)], [(1519, 62)], [(1519, 63)]), 3):
         for p, (spn, start) in enumerate(said, 1):
             run.learn(EXAMPLE._replace(k=k, n=len(said), position=p, spn=spn, start=start))

@@ -11,6 +11,8 @@ import os
 import sys
 from collections import namedtuple
 
+import units
+
 HERE = os.path.dirname(os.path.abspath(__file__))
 
 Answer = namedtuple("Answer", "number detail judgement position", defaults=(0, 0, 0))
@@ -270,11 +272,18 @@ class Box:
             return refused, list(buffer)
         return pack_places([row[1:] for row in rows], numbers, buffer)
 
-    def read(self, key, payload, room):
+    def read(self, key, payload, room, states):
+        """Beside the answer what the two rooms hold afterwards. Req 05: the state of each number, 'no new refusals': 13 where that room too is shorter than n."""
         refused, rows = self.usable(key)
         if refused:
-            return refused, list(room)
-        return read_places([row[1:] for row in rows], payload, room)
+            return refused, list(room), list(states)
+        if len(states) < len(rows):
+            return Answer(13), list(room), list(states)
+        answer, numbers = read_places([row[1:] for row in rows], payload, room)
+        if answer.number != 0:
+            return answer, numbers, list(states)
+        said = [units.state(width, number) for (spn, start, width), number in zip(rows, numbers)]
+        return answer, numbers, said + list(states[len(rows):])
 
     def find(self, key, spn):
         refused, rows = self.usable(key)

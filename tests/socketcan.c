@@ -32,6 +32,7 @@ int main(void)
     static const uint8_t second[8] = { 0x00, 0xb1, 0x00, 0xef, 0x05, 0x02, 0x82, 9 };
     static const uint8_t other[8] = { 0x00, 0xb1, 0x00, 0xef, 0x05, 0x02, 0x82, 10 };
     static const uint8_t payload[8] = { 0x28, 0xfd, 0xff, 0xff, 0xff, 0xff, 0xff, 0xff };
+    static const uint8_t no_pressure[8] = { 0xff, 0xfe, 0xff, 0xff, 0xff, 0xff, 0xff, 0xff };
     static const uint8_t one_name[8] = { 1 }, another_name[8] = { 2 };
     const uint32_t message = CAN_EFF_FLAG | 0x18b02726, claim = CAN_EFF_FLAG | 0x18eeff26;
     ports = 2;
@@ -55,6 +56,7 @@ int main(void)
     give("position 2", 1, message, second, 8);
     judged();
     give("a payload", 2, CAN_EFF_FLAG | 0x0cb12726, payload, 8);
+    give("a payload without a reading", 2, CAN_EFF_FLAG | 0x0cb12726, no_pressure, 8);
     give("a payload that is too short", 2, CAN_EFF_FLAG | 0x0cb12726, payload, 7);
     give("a payload of another key", 2, CAN_EFF_FLAG | 0x0cb22726, payload, 8);
     give("an engine's configuration", 1, CAN_EFF_FLAG | 0x18fee300, payload, 8);

@@ -1,7 +1,7 @@
 # Sourced by the scripts that build C with the library (examples/run, tests/header, tests/compare/run, bench/run), from the project's root. It builds the
 # archive and sets
 #   LIBRARY  the archive
-#   WORK     a folder for what is built, with spns.inc: the rows of tests/spns.txt for C
+#   WORK     a folder for what is built, with spns.inc and units.inc: the rows of tests/spns.txt and tests/units.txt for C
 #   GCC      a C compiler for x86-64, which is what the archive is for, and no options
 #   CC       the same with options; FLAGS has them without -O2
 #   RUN      what runs its programs: nothing here, the kit's emulator on another machine
@@ -11,6 +11,7 @@ LIBRARY=target/staticlib/libfirmware.a
 WORK=target/c
 mkdir -p "$WORK"
 sed 's/^\([0-9]*\) \([0-9]*\)$/{ \1, \2 },/' tests/spns.txt >"$WORK/spns.inc"
+sed 's/^\([0-9]*\) \([0-9]*\) \(-*[0-9]*\)$/{ \1, \2, \3 },/' tests/units.txt >"$WORK/units.inc"
 if [ "$(uname -m)" = x86_64 ]; then
     GCC=${CC:-cc}
     RUN=

@@ -41,13 +41,16 @@ static yendrolf_box before;           /* the library's before the call */
 
 static uint64_t seed, calls, checks;
 
-enum call { LEARN, FORGET, COUNT, JUDGE, PACK, READ, FIND, PARAMETER, KEYS, ADD, DELETE, RENEW, DECIDE, LIST, KINDS };
-static const char *const call_names[KINDS] = { "learn", "forget", "count", "judge", "pack", "read", "find", "parameter", "next key", "add", "delete", "renew",
-    "decide", "listing" };
+enum call { LEARN, FORGET, COUNT, JUDGE, PACK, READ, FIND, PARAMETER, MEANING, SCALED, KEYS, ADD, DELETE, RENEW, DECIDE, LIST, KINDS };
+static const char *const call_names[KINDS] = { "learn", "forget", "count", "judge", "pack", "read", "find", "parameter", "meaning", "scaled", "next key", "add",
+    "delete", "renew", "decide", "listing" };
 static uint64_t answers[KINDS][21], kinds[KINDS];
 static uint64_t judgements[2][9];     /* of judging, and of answer 12 */
 static uint64_t pass_or_block[2], longest, most_numbers;
 static uint64_t unknown_told;         /* parameters whose SPN the dictionary has not */
+static uint64_t states_read[4];       /* of numbers that were read */
+static uint64_t scaled_told[6][4];    /* of scaling, by kind and state */
+static uint64_t below_zero;           /* values */
 
 static char told_call[512];           /* the call under way, for a report */
 
@@ -409,20 +412,42 @@ static void fill_bytes(uint8_t *a, uint8_t *b, size_t size)
     memcpy(b, a, size);
 }
 
+/* A length of a room for n: below it, at it and above it. */
+static unsigned any_room(unsigned n)
+{
+    return one_in(2) ? n : one_in(8) ? n - 1 : one_in(8) ? below(4) : n + below(PLACES - 64);
+}
+
 static void read_back(struct intended m, const uint8_t *payload, size_t size, const uint32_t *packed)
 {
     static uint32_t one[PLACES], two[PLACES];
+    static uint8_t one_states[PLACES], two_states[PLACES];
     for (unsigned i = 0; i < PLACES; i++)
         one[i] = two[i] = any();
-    unsigned room = one_in(2) ? m.n : one_in(8) ? m.n - 1 : one_in(8) ? below(4) : m.n + below(PLACES - 64);
-    snprintf(told_call, sizeof told_call, "read %u %u %u, %zu bytes, room for %u", m.source, m.destination, m.k, size, room);
-    yendrolf_told a = yendrolf_read(&box, m.source, m.destination, m.k, payload, size, one, room);
-    same(READ, a, plain_read(&plain, m.source, m.destination, m.k, payload, size, two, room));
+    fill_bytes(one_states, two_states, PLACES);
+    unsigned room = any_room(m.n), places = any_room(m.n);
+    snprintf(told_call, sizeof told_call, "read %u %u %u, %zu bytes, room for %u numbers and %u states", m.source, m.destination, m.k, size, room, places);
+    yendrolf_told a = yendrolf_read(&box, m.source, m.destination, m.k, payload, size, one, room, one_states, places);
+    same(READ, a, plain_read(&plain, m.source, m.destination, m.k, payload, size, two, room, two_states, places));
     unchanged();
     if (memcmp(one, two, sizeof one) != 0)
         differ("the numbers");
+    if (memcmp(one_states, two_states, sizeof one_states) != 0)
+        differ("the states");
+    if (a.number == 0)
+        for (unsigned i = 0; i < a.detail; i++)
+            states_read[one_states[i]]++;
     if (a.number == 0 && packed && memcmp(one, packed, a.detail * sizeof one[0]) != 0)
         differ("what was packed is not what is read");
+}
+
+/* A number beside the lines that part the states of its width. */
+static uint32_t edge(unsigned width)
+{
+    if (width < 8 || width > 32)
+        return below(5);
+    unsigned low = width - 8;
+    return (248 + below(8)) << low | (one_in(2) ? (1u << low) - 1 : one_in(2) ? 0 : any() & ((1u << low) - 1));
 }
 
 static void pack(struct intended m)
@@ -435,6 +460,8 @@ static void pack(struct intended m)
         numbers[i] = width >= 32 ? any() : any() & ((1u << width) - 1);
         if (one_in(8))
             numbers[i] = width >= 32 ? 0xffffffff : (1u << width) - 1;
+        if (width >= 8 && one_in(4))
+            numbers[i] = edge(width);
     }
     if (one_in(6)) {
         unsigned i = below(m.n), width = plain_width(m.spn[i + 1]);
@@ -462,6 +489,9 @@ static void read_any(struct intended m)
     static uint8_t payload[BUFFER], spare[BUFFER];
     size_t size = one_in(8) ? m.bytes + 1 : one_in(8) ? m.bytes - 1 : one_in(8) ? below(40) : m.bytes;
     fill_bytes(payload, spare, size);
+    for (size_t i = 0; i < size; i++)
+        if (one_in(4))
+            payload[i] = (uint8_t)edge(8);
     read_back(m, payload, size, NULL);
 }
 
@@ -491,6 +521,47 @@ static void parameter_at(struct intended m)
     if (a.spn != b.spn || a.start != b.start || a.width != b.width)
         differ("the parameter");
     unknown_told += b.answer.number == 0 && b.width == 0;
+}
+
+/* An SPN that the dictionary has, with an offset below 0 now and then; one beside it; or any. */
+static uint32_t asked_spn(void)
+{
+    static const uint32_t with_offset[] = { 1508, 1509, 1510, 1539, 3090 };
+    if (one_in(6))
+        return PICK(with_offset);
+    return one_in(10) ? any() : one_in(8) ? any_spn() + 1 : one_in(8) ? any_spn() - 1 : any_spn();
+}
+
+static void meaning(void)
+{
+    uint32_t spn = asked_spn();
+    snprintf(told_call, sizeof told_call, "meaning of %" PRIu32, spn);
+    yendrolf_meant a = yendrolf_meaning(spn);
+    struct plain_meaning b = plain_meaning(spn);
+    calls++;
+    kinds[MEANING]++;
+    if (a.width != b.width || a.resolution != b.resolution || a.offset != b.offset || a.kind != b.kind)
+        differ("the meaning");
+    unchanged();
+}
+
+static void scaled(void)
+{
+    uint32_t spn = asked_spn();
+    unsigned width = plain_width(spn);
+    uint32_t number = one_in(6) ? any() : one_in(2) ? edge(width) : any() & (uint32_t)((1ull << width) - 1);
+    if (one_in(12))
+        number += width < 32 ? 1u << width : 0;   /* past its width */
+    snprintf(told_call, sizeof told_call, "scaled %" PRIu32 " of SPN %" PRIu32, number, spn);
+    yendrolf_value a = yendrolf_scaled(spn, number);
+    struct plain_scaled b = plain_scaled(spn, number);
+    calls++;
+    kinds[SCALED]++;
+    if (a.value != b.value || a.kind != b.kind || a.state != b.state)
+        differ("the value");
+    scaled_told[b.kind][b.state]++;
+    below_zero += b.value < 0;
+    unchanged();
 }
 
 static int same_key(yendrolf_key a, int held, unsigned source, unsigned destination, unsigned k)
@@ -737,6 +808,10 @@ static void one_call(void)
         command(RENEW);
     else if (what < 883)
         listing();
+    else if (what < 893)
+        meaning();
+    else if (what < 923)
+        scaled();
     else
         command(DECIDE);
 }
@@ -796,6 +871,12 @@ static void print_counts(void)
         printf("  %u %10" PRIu64 " %10" PRIu64 "\n", j, judgements[0][j], judgements[1][j]);
     printf("\ndecisions: pass %" PRIu64 ", block %" PRIu64 "\n", pass_or_block[1], pass_or_block[0]);
     printf("parameters that the dictionary has not %" PRIu64 "\n", unknown_told);
+    printf("states of numbers read: valid %" PRIu64 ", reserved %" PRIu64 ", error %" PRIu64 ", not available %" PRIu64 "\n", states_read[0], states_read[1],
+        states_read[2], states_read[3]);
+    printf("\nscaled: kind, valid, reserved, error, not available\n");
+    for (unsigned i = 0; i < 6; i++)
+        printf("  %u %10" PRIu64 " %10" PRIu64 " %10" PRIu64 " %10" PRIu64 "\n", i, scaled_told[i][0], scaled_told[i][1], scaled_told[i][2], scaled_told[i][3]);
+    printf("values below 0: %" PRIu64 "\n\n", below_zero);
     printf("longest payload %" PRIu64 " bytes, most numbers %" PRIu64 "\n", longest, most_numbers);
     printf("the whole box compared %" PRIu64 " times\n", checks);
 }

@@ -1,4 +1,4 @@
-/* Document 01 once more, plainly: see plain.h. Words in quotes are 01's. */
+/* Document 01 once more, plainly: see plain.h. Words in quotes are 01's, or 02's where a request is named. */
 #include "plain.h"
 
 #include <stdio.h>
@@ -68,6 +68,77 @@ unsigned plain_width(uint32_t spn)
         if (dictionary[i].spn == spn)
             return dictionary[i].width;
     return 0;
+}
+
+/* ---- Req 05: what a number means. tests/units.txt is made from 002 by tests/resolutions.py */
+
+static const struct {
+    uint32_t spn;
+    long long resolution, offset;
+} units[] = {
+#include "units.inc"
+};
+
+/* "For one byte 0 to 250 valid, 251 to 253 reserved .. 254 error, 255 not available": a top byte that a number past its width has is above these. */
+static unsigned state_of_byte(uint32_t top)
+{
+    if (top <= 250)
+        return 0;
+    if (top <= 253)
+        return 1;
+    return top == 254 ? 2 : 3;
+}
+
+/* "for two bits 2 error and 3 not available; others from its table, valid where it has no row": of two and four bytes the top one counts. */
+static unsigned state_of(unsigned width, uint32_t number)
+{
+    switch (width) {
+    case 2:
+        return number < 2 ? 0 : number == 2 ? 2 : 3;
+    case 8:
+        return state_of_byte(number);
+    case 16:
+        return state_of_byte(number / 256);
+    case 32:
+        return state_of_byte(number / 256 / 256 / 256);
+    default:
+        return 0;
+    }
+}
+
+struct plain_meaning plain_meaning(uint32_t spn)
+{
+    struct plain_meaning meaning;
+    memset(&meaning, 0, sizeof meaning);
+    meaning.width = plain_width(spn);
+    if (meaning.width == 0)
+        return meaning;
+    for (size_t i = 0; i < sizeof units / sizeof units[0]; i++) {
+        if (units[i].spn == spn) {
+            meaning.resolution = units[i].resolution;
+            meaning.offset = units[i].offset;
+        }
+    }
+    if (meaning.width == 2)
+        meaning.kind = 1;
+    else if (meaning.width == 8)
+        meaning.kind = 2;
+    else if (meaning.width == 16)
+        meaning.kind = 3;
+    else if (meaning.width == 32)
+        meaning.kind = 4;
+    else
+        meaning.kind = 5;
+    return meaning;
+}
+
+struct plain_scaled plain_scaled(uint32_t spn, uint32_t number)
+{
+    struct plain_meaning meaning = plain_meaning(spn);
+    struct plain_scaled scaled = { 0, meaning.kind, state_of(meaning.width, number) };
+    if (scaled.state == 0 && meaning.width != 0)
+        scaled.value = (long long)number * meaning.resolution + meaning.offset;
+    return scaled;
 }
 
 /* ---- sets */
@@ -380,13 +451,13 @@ struct plain_answer plain_pack(const struct plain_box *box, unsigned source, uns
 }
 
 struct plain_answer plain_read(const struct plain_box *box, unsigned source, unsigned destination, unsigned k, const uint8_t *payload, size_t size,
-    uint32_t *numbers, size_t room)
+    uint32_t *numbers, size_t room, uint8_t *states, size_t places)
 {
     struct map map;
     struct plain_answer refusal;
     if (!usable(box, source, destination, k, &map, &refusal))
         return refusal;
-    if (size != payload_bytes(&map) || room < map.n)
+    if (size != payload_bytes(&map) || room < map.n || places < map.n)
         return answer(13, 0);
     for (unsigned p = 1; p <= map.n; p++) {
         uint32_t value = 0, worth = 1;
@@ -395,6 +466,7 @@ struct plain_answer plain_read(const struct plain_box *box, unsigned source, uns
             worth *= 2;
         }
         numbers[p - 1] = value;
+        states[p - 1] = (uint8_t)state_of(map.width[p], value);
     }
     return answer(0, map.n);
 }

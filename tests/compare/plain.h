@@ -1,4 +1,4 @@
-/* A second implementation of document 01, in C, written from 01, docs/WIRE.md and docs/DECISIONS.md alone and as plainly as possible: a key is the
+/* A second implementation of document 01, with 02's requests that have landed, in C, written from 01, 02, docs/WIRE.md and docs/DECISIONS.md alone and as plainly as possible: a key is the
    list of its messages, a payload is handled one bit at a time, a port pair is a mode and a list. It shares nothing with the Rattle code, is slow
    where that is plainer, and is nothing but a thing to compare with (tests/compare/run). */
 #ifndef PLAIN_H
@@ -29,6 +29,21 @@ struct plain_parameter {
     unsigned spn;
     unsigned start;
     unsigned width;
+};
+
+/* Req 05, "width, resolution, offset and kind": resolution and offset in thousandths, all 0 where the dictionary has not the SPN. */
+struct plain_meaning {
+    unsigned width;
+    long long resolution;
+    long long offset;
+    unsigned kind;
+};
+
+/* Req 05, a "scaled whole number" and its state: 0 valid, 1 reserved, 2 error, 3 not available. */
+struct plain_scaled {
+    long long value;
+    unsigned kind;
+    unsigned state;
 };
 
 /* What one message says and is kept (01, "What one message says"). The start counts from 0, the position from 1. */
@@ -70,7 +85,7 @@ struct plain_answer plain_judge(const struct plain_box *box, unsigned source, un
 struct plain_answer plain_pack(const struct plain_box *box, unsigned source, unsigned destination, unsigned k, const uint32_t *numbers, size_t count,
     uint8_t *payload, size_t size);
 struct plain_answer plain_read(const struct plain_box *box, unsigned source, unsigned destination, unsigned k, const uint8_t *payload, size_t size,
-    uint32_t *numbers, size_t room);
+    uint32_t *numbers, size_t room, uint8_t *states, size_t places);
 struct plain_found plain_find(const struct plain_box *box, unsigned source, unsigned destination, unsigned k, uint32_t spn);
 
 /* The parameter at a position of a key's map, usable or not: 11, then 18 where nothing stands there (so at each position of a key in conflict), else 0. */
@@ -92,5 +107,9 @@ size_t plain_listing(const uint8_t *log, size_t size, char *text, size_t room);
 
 /* The width of an SPN's parameter, 0 where the dictionary has it not. */
 unsigned plain_width(uint32_t spn);
+
+/* What an SPN means, and what a number of it is worth: 0 where its state is not valid or the dictionary has not the SPN. */
+struct plain_meaning plain_meaning(uint32_t spn);
+struct plain_scaled plain_scaled(uint32_t spn, uint32_t number);
 
 #endif

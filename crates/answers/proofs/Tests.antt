@@ -5,7 +5,7 @@ use mathlib.Core.Bool.{Bool, true, false, cond, not, _&&_, _||_, true≢false, o
 use mathlib.Core.List.{List, [], _∷_, _++_}
 use lib.Dec.{T, eqb, leb}
 use borrow.Author.Tests.{eq-eqb, leb-true}
-use Rattle.answers.specs.Answers.{Said, Outcome}
+use Rattle.answers.specs.Answers.{Said, Outcome, outcome}
 use Rattle.answers.specs.Tests.{Test, inOrder, firstOf, tested}
 
 -- none of the tests applies
@@ -133,11 +133,17 @@ from-answers number refuse same = from-list (λ a. a .number) number refuse same
 pub from-numbers : (ts : List (Test ℕ)) (later : ℕ) → oneOf (firstOf ts later) (later ∷ numbersBy (λ n. n) ts) ≡ true
 from-numbers ts later = from-list (λ n. n) (λ n. n) (λ n. n) (λ n. refl) ts later
 
--- "A refusal leaves every table and every lent buffer as found": where the number is not that of the rest, no word or byte has changed
+-- where the number is not that of the rest, the call leaves what each refusal leaves
+pub leaving : {B M : Type 0} (number : B → ℕ) (memory : B → M) (refuse : Said → B) (held : M) → ((a : Said) → memory (refuse a) ≡ held) → (ts : List (Test Said)) (rest : B)
+    → (number (inOrder refuse ts rest) ≡ number rest → ⊥) → memory (inOrder refuse ts rest) ≡ held
+leaving number memory refuse held same [] rest h = absurd (h refl)
+leaving number memory refuse held same (t ∷ ts) rest h =
+    by (t .applies) (λ e. rw e (same (t .answer))) (λ e. rw e (leaving number memory refuse held same ts rest (rw e at h)))
+
+-- "A refusal leaves every table and every lent buffer as found": no word or byte has changed
 pub leaves : (ts : List (Test Said)) (memory : List ℕ) (rest : Outcome) → (tested ts memory rest .answer .number ≡ rest .answer .number → ⊥)
     → tested ts memory rest .memory ≡ memory
-leaves [] memory rest h = absurd (h refl)
-leaves (t ∷ ts) memory rest h = by (t .applies) (λ e. rw e) (λ e. rw e (leaves ts memory rest (rw e at h)))
+leaves ts memory rest = leaving (λ (o : Outcome). o .answer .number) (λ (o : Outcome). o .memory) (λ a. outcome a memory) memory (λ a. refl) ts rest
 
 -- ---- each number exactly where its test says
 

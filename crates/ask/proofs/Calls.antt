@@ -1,15 +1,18 @@
 -- The calls' answers by the tests that led there, over any map and any dictionary. Assumes nothing.
-use Prim.Native.Nat.{ℕ, _≤_}
+use Prim.Native.Nat.{ℕ, _≤_, _<_}
 use mathlib.Core.Path.{_≡_, refl, sym, ap, _∙_}
-use mathlib.Core.Bool.{Bool, true, false, cond, not, _&&_, _||_}
+use mathlib.Core.Bool.{Bool, true, false, cond, not, _&&_, _||_, or-true}
 use mathlib.Core.List.{List, _++_}
 use lib.Dec.{eqb, ltb}
-use lib.ListN.{length}
+use lib.ListN.{length, drop}
 use native.Mathlib.Omega.{arith}
-use borrow.Author.Tests.{eq-eqb, ne-eqb, not-false}
-use Rattle.answers.specs.Answers.{Said, at, plain, unusable, outcome}
+use borrow.Author.Tests.{eq-eqb, ne-eqb, ltb-false, lt-ltb, le-ltb, not-false}
+use Rattle.answers.specs.Answers.{Said, at, plain, done, unusable, Outcome, outcome}
 use Rattle.payload.specs.declared.Laying.{Laying}
 use Rattle.payload.specs.Calls.{Left, left, tooWideIn, packing, reading}
+use Rattle.payload.proofs.Laws.{read-length}
+use Rattle.states.specs.States.{statesOver}
+use Rattle.states.proofs.States.{states-first}
 use Rattle.maps.specs.Maps.{Map, Nothing, Conflict, Held}
 use Rattle.judge.specs.Judge.{startIn, widthIn, judge, usable, countOf, paramsOf, startsOf, widthsOf, lengthOf}
 use Rattle.judge.proofs.Judged.{lists-length, usable-placed}
@@ -17,8 +20,8 @@ use Rattle.answers.specs.Tests.{Test, inOrder}
 use Rattle.answers.proofs.Tests.{None}
 use Rattle.words.proofs.Tests.{test}
 use Rattle.open.specs.Open.{isHeld, judgedBy}
-use Rattle.ask.specs.Ask.{keyTests, packTests, packDone, packedBy, readTests, readDone, readBy, notFound, positionOf, findTests, foundBy, nowhere, standsBy}
-use Rattle.ask.specs.Parts.{readyBy, saidBy, asOutcome}
+use Rattle.ask.specs.Ask.{keyTests, packTests, packDone, packedBy, reads, readTests, numbersIn, readDone, readBy, notFound, positionOf, findTests, foundBy, nowhere, standsBy}
+use Rattle.ask.specs.Parts.{readyBy, saidBy, asOutcome, withStates, readWith}
 
 module _ (widthOf : ℕ → ℕ) (m : Map) where
   -- usable is held with judgement 0
@@ -103,9 +106,10 @@ module _ (widthOf : ℕ → ℕ) (m : Map) where
     unfolding packedBy
     pack-unready numbers out = rw e (ready-is (λ x. outcome x out) (packDone widthOf m numbers out) (rw e at n) (packTests widthOf m numbers out))
 
-    pub read-unready : (payload room : List ℕ) → outcome a room ≡ readBy widthOf m payload room
+    pub read-unready : (payload room states : List ℕ) → reads a room states ≡ readBy widthOf m payload room states
     unfolding readBy
-    read-unready payload room = rw e (ready-is (λ x. outcome x room) (readDone widthOf m payload room) (rw e at n) (readTests widthOf m payload room))
+    read-unready payload room states =
+        rw e (ready-is (λ x. reads x room states) (readDone widthOf m payload room states) (rw e at n) (readTests widthOf m payload room states))
 
     pub find-unready : (spn : ℕ) → notFound a ≡ foundBy widthOf m spn
     unfolding foundBy
@@ -122,9 +126,9 @@ module _ (widthOf : ℕ → ℕ) (m : Map) (h : isHeld m ≡ true) (n : judge wi
   unfolding packedBy
   pack-bad numbers out = rw (key-bad widthOf m h n .0, key-bad widthOf m h n .1)
 
-  pub read-bad : (payload room : List ℕ) → readBy widthOf m payload room ≡ outcome (unusable (judge widthOf m)) room
+  pub read-bad : (payload room states : List ℕ) → readBy widthOf m payload room states ≡ reads (unusable (judge widthOf m)) room states
   unfolding readBy
-  read-bad payload room = rw (key-bad widthOf m h n .0, key-bad widthOf m h n .1)
+  read-bad payload room states = rw (key-bad widthOf m h n .0, key-bad widthOf m h n .1)
 
   pub find-bad : (spn : ℕ) → foundBy widthOf m spn ≡ notFound (unusable (judge widthOf m))
   unfolding foundBy
@@ -140,6 +144,28 @@ as-one : (a : Bool) (x y : Left) → asOutcome (cond a x y) ≡ cond a (asOutcom
 as-one true x y = refl
 as-one false x y = refl
 
+-- reading by lists, with the states, by the tests that led there
+module _ (starts widths payload room states : List ℕ) where
+  pub with-short : length states < length starts → (a : Said) → a ≡ plain 13 → reads a room states ≡ readWith starts widths payload room states
+  unfolding readWith
+  with-short s a e = rw (lt-ltb (length states) (length starts) s, e)
+
+  module _ (s : length starts ≤ length states) (laying : Laying) (a : Said) (e : a ≡ saidBy laying) (left-in : List ℕ) (f : left laying left-in ≡ reading starts widths payload room) where
+    told : outcome a left-in ≡ asOutcome (reading starts widths payload room)
+    told = ap (λ (x : Said). outcome x left-in) e ∙ ap asOutcome f
+
+    pub with-refused : (a .number ≡ 0 → ⊥) → reads a left-in states ≡ readWith starts widths payload room states
+    unfolding readWith withStates
+    with-refused n =
+        let h : reads a left-in states ≡ withStates widths states (outcome a left-in) = rw (ne-eqb (a .number) 0 n) in
+        rw (le-ltb (length states) (length starts) s) (h ∙ ap (withStates widths states) told)
+
+    pub with-done : a .number ≡ 0 → (laid : List ℕ) → laid ≡ statesOver widths left-in states → reads a left-in laid ≡ readWith starts widths payload room states
+    unfolding readWith withStates
+    with-done z laid g =
+        let h : reads a left-in laid ≡ withStates widths states (outcome a left-in) = rw (eq-eqb (a .number) 0 z, g) in
+        rw (le-ltb (length states) (length starts) s) (h ∙ ap (withStates widths states) told)
+
 -- where payload's lists are a usable map's, its calls never find a position without a place (`usable-placed`), and tell what 01 asks
 module _ (widthOf : ℕ → ℕ) (most : (x : ℕ) → widthOf x ≤ 32) (m : Map) (u : usable widthOf m ≡ true) (few : countOf m ≤ 64) where
   packing-is : (numbers out : List ℕ) → asOutcome (packing (startsOf widthOf m) (widthsOf widthOf m) numbers out) ≡ packedBy widthOf m numbers out
@@ -149,18 +175,47 @@ module _ (widthOf : ℕ → ℕ) (most : (x : ℕ) → widthOf x ≤ 32) (m : Ma
       (as-two (not (eqb (length numbers) (countOf m)) || ltb (length out) (lengthOf widthOf m)) (ltb 0 (tooWideIn (widthsOf widthOf m) numbers)) _ _ _
       ∙ rw (usable-held widthOf m u, u))
 
-  reading-is : (payload room : List ℕ) → asOutcome (reading (startsOf widthOf m) (widthsOf widthOf m) payload room) ≡ readBy widthOf m payload room
-  unfolding reading readBy
+  -- whether the payload or the room for numbers has the wrong length: what payload's call tests
+  abbrev misfits : List ℕ → List ℕ → Bool
+  misfits payload room = not (eqb (length payload) (lengthOf widthOf m)) || ltb (length room) (countOf m)
+
+  reading-is : (payload room : List ℕ) → asOutcome (reading (startsOf widthOf m) (widthsOf widthOf m) payload room)
+      ≡ cond (misfits payload room) (outcome (plain 13) room) (outcome (done (countOf m)) (numbersIn widthOf m payload ++ drop (countOf m) room))
+  unfolding reading
   reading-is payload room =
-      rw (usable-placed widthOf m u most few, lists-length widthOf m .1)
-      (as-one (not (eqb (length payload) (lengthOf widthOf m)) || ltb (length room) (countOf m)) _ _ ∙ rw (usable-held widthOf m u, u))
+      rw (usable-placed widthOf m u most few, lists-length widthOf m .1) (as-one (misfits payload room) _ _)
+
+  -- with the states, where there is room for them: payload's tests decide
+  told-states : (payload room states : List ℕ) → ltb (length states) (countOf m) ≡ false
+      → withStates (widthsOf widthOf m) states (cond (misfits payload room) (outcome (plain 13) room) (outcome (done (countOf m)) (numbersIn widthOf m payload ++ drop (countOf m) room)))
+      ≡ readBy widthOf m payload room states
+  unfolding withStates readBy
+  told-states payload room states s =
+      test (misfits payload room) (λ y. rw (y, usable-held widthOf m u, u))
+      (λ y. rw (y, s, usable-held widthOf m u, u)
+      (ap (reads (done (countOf m)) (numbersIn widthOf m payload ++ drop (countOf m) room))
+      (states-first (widthsOf widthOf m) (numbersIn widthOf m payload) (drop (countOf m) room) states (countOf m) (lists-length widthOf m .2)
+      (read-length (startsOf widthOf m) (widthsOf widthOf m) payload ∙ lists-length widthOf m .1) (ltb-false _ _ s))))
+
+  -- and where there is none: 13
+  no-states : (payload room states : List ℕ) → ltb (length states) (countOf m) ≡ true → reads (plain 13) room states ≡ readBy widthOf m payload room states
+  unfolding readBy
+  no-states payload room states s = rw (s, usable-held widthOf m u, u, or-true (misfits payload room))
+
+  with-is : (payload room states : List ℕ) → readWith (startsOf widthOf m) (widthsOf widthOf m) payload room states ≡ readBy widthOf m payload room states
+  unfolding readWith
+  with-is payload room states =
+      test (ltb (length states) (countOf m)) (λ s. rw (lists-length widthOf m .1, s) (no-states payload room states s))
+      (λ s. rw (lists-length widthOf m .1, s) (ap (withStates (widthsOf widthOf m) states) (reading-is payload room) ∙ told-states payload room states s))
 
   module _ (starts widths : List ℕ) (l : (starts ≡ startsOf widthOf m) × (widths ≡ widthsOf widthOf m)) (laying : Laying) (a : Said) (e : a ≡ saidBy laying) where
     pub pack-told : (numbers out held : List ℕ) → left laying out ≡ packing starts widths numbers held → outcome a out ≡ packedBy widthOf m numbers held
     pack-told numbers out held f = ap (λ (x : Said). outcome x out) e ∙ ap asOutcome f ∙ rw (l .0, l .1) (packing-is numbers held)
 
-    pub read-told : (payload room held : List ℕ) → left laying room ≡ reading starts widths payload held → outcome a room ≡ readBy widthOf m payload held
-    read-told payload room held f = ap (λ (x : Said). outcome x room) e ∙ ap asOutcome f ∙ rw (l .0, l .1) (reading-is payload held)
+  -- what reading by its lists leaves
+  pub read-told : (starts widths : List ℕ) → (starts ≡ startsOf widthOf m) × (widths ≡ widthsOf widthOf m) → (payload room states : List ℕ)
+      → readWith starts widths payload room states ≡ readBy widthOf m payload room states
+  read-told starts widths l payload room states = rw (l .0, l .1) (with-is payload room states)
 
 -- finding in a usable map
 module _ (widthOf : ℕ → ℕ) (m : Map) (u : usable widthOf m ≡ true) (spn : ℕ) (a : Said) (p : ℕ) (its : p ≡ positionOf widthOf m spn) where

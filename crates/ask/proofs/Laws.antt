@@ -2,7 +2,7 @@
 -- other, and where the bits stand. Assumes nothing.
 use Prim.Native.Nat.{ℕ, suc, _*_, _/_, _%_, _≤_, _<_}
 use mathlib.Core.Path.{_≡_, refl, sym, ap, _∙_}
-use mathlib.Core.Bool.{true, false, not}
+use mathlib.Core.Bool.{true, false, not, _||_}
 use mathlib.Core.List.{List, [], _∷_, _++_}
 use native.Mathlib.Decide.{decLt}
 use native.Mathlib.Omega.{arith}
@@ -13,14 +13,15 @@ use lib.Seq.{take-at, drop-at}
 use Rattle.answers.specs.Answers.{Said, plain, done, unusable, Outcome, outcome}
 use Rattle.answers.specs.Tests.{Test, _when_, inOrder}
 use Rattle.answers.proofs.Cases.{same-answer}
-use Rattle.answers.proofs.Tests.{noneGives, only-rest, only-at, leaves}
+use Rattle.answers.proofs.Tests.{noneGives, only-rest, only-at, leaving, leaves}
 use Rattle.bits.specs.Bits.{bit, bitAt, readNumber}
 use Rattle.places.specs.Place.{bitPlace, assigned, Apart}
 use Rattle.payload.specs.Payload.{packed, readAll, filled, Fit}
 use Rattle.payload.specs.Calls.{tooWideIn}
+use Rattle.states.specs.States.{statesOf}
 use Rattle.words.proofs.Lowest.{neither, lowest-at, lowest-none}
 use Rattle.bits.proofs.Bits.{from-lt, bitAt-lt}
-use Rattle.words.proofs.Lists.{get-tabulate}
+use Rattle.words.proofs.Lists.{length-tabulate, get-tabulate}
 use Rattle.payload.proofs.Fit.{none-wide, fit-none-wide}
 use Rattle.payload.proofs.Laws.{packed-at, packed-other, packed-length, read-packed, packed-read, read-length}
 use Rattle.maps.specs.Maps.{Map}
@@ -30,7 +31,7 @@ use Rattle.judge.proofs.Judged.{lists-length, usable-sound, usable-apart, usabl
 use Rattle.ask.specs.declared.Found.{Found}
 use Rattle.ask.specs.declared.Parameter.{Parameter}
 use Rattle.open.specs.Open.{isHeld}
-use Rattle.ask.specs.Ask.{keyTests, packTests, packDone, packedBy, readTests, readDone, readBy, Finding, foundIn, notFound, foundAt, findTests, foundBy, positionOf, Standing, standingIn}
+use Rattle.ask.specs.Ask.{keyTests, packTests, packDone, packedBy, Reading, reads, readTests, readDone, readBy, Finding, foundIn, notFound, foundAt, findTests, foundBy, positionOf, Standing, standingIn}
 use Rattle.ask.proofs.Calls.{held-usable, usable-held, pack-bad, read-bad, find-bad}
 
 -- numbers that were read need no more than their widths
@@ -43,6 +44,9 @@ read-fit ss ws payload = record {
 
 abbrev answerNumber : Outcome → ℕ
 answerNumber o = o .answer .number
+
+abbrev readingNumber : Reading → ℕ
+readingNumber r = r .answer .number
 
 -- a payload bit of the first bytes of a buffer
 bit-first : (xs ys : List ℕ) (p : ℕ) → p < 8 * length xs → bitAt (xs ++ ys) p ≡ bitAt xs p
@@ -80,12 +84,12 @@ module _ (widthOf : ℕ → ℕ) (m : Map) where
   )
 
   -- and so does read
-  pub read-12 : (payload room : List ℕ) → (readBy widthOf m payload room .answer .number ≡ 12 → Unusable)
-      × (Unusable → readBy widthOf m payload room ≡ outcome (unusable (judge widthOf m)) room)
+  pub read-12 : (payload room states : List ℕ) → (readBy widthOf m payload room states .answer .number ≡ 12 → Unusable)
+      × (Unusable → readBy widthOf m payload room states ≡ reads (unusable (judge widthOf m)) room states)
   unfolding readBy
-  read-12 payload room = (
-    λ e. only-12 answerNumber (λ a. outcome a room) (λ a. refl) (readTests widthOf m payload room) (readDone widthOf m payload room) e tt tt,
-    λ u. read-bad widthOf m (u .0) (u .1) payload room,
+  read-12 payload room states = (
+    λ e. only-12 readingNumber (λ a. reads a room states) (λ a. refl) (readTests widthOf m payload room states) (readDone widthOf m payload room states) e tt tt,
+    λ u. read-bad widthOf m (u .0) (u .1) payload room states,
   )
 
   -- and find
@@ -115,29 +119,36 @@ module _ (widthOf : ℕ → ℕ) (m : Map) where
       let n = eqb-true (length numbers) (countOf m) (not-false _ c) in
       (not-false _ u, none-wide ss ws numbers (n ∙ sym (lists-length widthOf m .1)) (omega (arith, ltb-false 0 (tooWideIn ws numbers) b)), ltb-false _ _ d)
 
-  -- reading is done exactly where the map is usable, the payload has L bytes, and there is room for n numbers
-  pub read-done : (payload room : List ℕ) → usable widthOf m ≡ true → length payload ≡ lengthOf widthOf m → countOf m ≤ length room
-      → readBy widthOf m payload room ≡ outcome (done (countOf m)) (readAll ss ws payload ++ drop (countOf m) room)
+  -- reading is done exactly where the map is usable, the payload has L bytes, and there is room for n numbers and n states
+  pub read-done : (payload room states : List ℕ) → usable widthOf m ≡ true → length payload ≡ lengthOf widthOf m → countOf m ≤ length room → countOf m ≤ length states
+      → readBy widthOf m payload room states ≡ readDone widthOf m payload room states
   unfolding readBy
-  read-done payload room u e l =
-      rw (usable-held widthOf m u, u, eq-eqb (length payload) (lengthOf widthOf m) e, le-ltb (length room) (countOf m) l)
+  read-done payload room states u e l k =
+      rw (usable-held widthOf m u, u, eq-eqb (length payload) (lengthOf widthOf m) e, le-ltb (length room) (countOf m) l, le-ltb (length states) (countOf m) k)
 
-  pub done-reads : (payload room : List ℕ) → readBy widthOf m payload room .answer .number ≡ 0
-      → (usable widthOf m ≡ true) × (length payload ≡ lengthOf widthOf m) × (countOf m ≤ length room)
+  pub done-reads : (payload room states : List ℕ) → readBy widthOf m payload room states .answer .number ≡ 0
+      → (usable widthOf m ≡ true) × (length payload ≡ lengthOf widthOf m) × (countOf m ≤ length room) × (countOf m ≤ length states)
   unfolding readBy
-  done-reads payload room e =
-      let (_, (u, (a, _))) = only-rest answerNumber (λ a. outcome a room) (λ a. refl) 0 (keyTests widthOf m ++ readTests widthOf m payload room) (readDone widthOf m payload room) tt e .0 in
-      let (c, d) = neither (not (eqb (length payload) (lengthOf widthOf m))) (ltb (length room) (countOf m)) a in
-      (not-false _ u, eqb-true (length payload) (lengthOf widthOf m) (not-false _ c), ltb-false _ _ d)
+  done-reads payload room states e =
+      let (_, (u, (a, _))) = only-rest readingNumber (λ a. reads a room states) (λ a. refl) 0 (keyTests widthOf m ++ readTests widthOf m payload room states) (readDone widthOf m payload room states) tt e .0 in
+      let (b, s) = neither (not (eqb (length payload) (lengthOf widthOf m)) || ltb (length room) (countOf m)) (ltb (length states) (countOf m)) a in
+      let (c, d) = neither (not (eqb (length payload) (lengthOf widthOf m))) (ltb (length room) (countOf m)) b in
+      (not-false _ u, eqb-true (length payload) (lengthOf widthOf m) (not-false _ c), ltb-false _ _ d, ltb-false _ _ s)
 
   -- "None" of a refusal: the buffer and the room hold what they held
   pub pack-refused : (numbers out : List ℕ) → (packedBy widthOf m numbers out .answer .number ≡ 0 → ⊥) → packedBy widthOf m numbers out .memory ≡ out
   unfolding packedBy
   pack-refused numbers out n = leaves (keyTests widthOf m ++ packTests widthOf m numbers out) out (packDone widthOf m numbers out) n
 
-  pub read-refused : (payload room : List ℕ) → (readBy widthOf m payload room .answer .number ≡ 0 → ⊥) → readBy widthOf m payload room .memory ≡ room
+  pub read-refused : (payload room states : List ℕ) → (readBy widthOf m payload room states .answer .number ≡ 0 → ⊥)
+      → (readBy widthOf m payload room states .numbers ≡ room) × (readBy widthOf m payload room states .states ≡ states)
   unfolding readBy
-  read-refused payload room n = leaves (keyTests widthOf m ++ readTests widthOf m payload room) room (readDone widthOf m payload room) n
+  read-refused payload room states n =
+      let ts = keyTests widthOf m ++ readTests widthOf m payload room states in
+      let rest = readDone widthOf m payload room states in (
+        leaving readingNumber (λ (r : Reading). r .numbers) (λ a. reads a room states) room (λ a. refl) ts rest n,
+        leaving readingNumber (λ (r : Reading). r .states) (λ a. reads a room states) states (λ a. refl) ts rest n,
+      )
 
   -- ---- demand 2, on the calls: after packing answered 0
   module _ (numbers out : List ℕ) (e : packedBy widthOf m numbers out .answer .number ≡ 0) where
@@ -172,41 +183,54 @@ module _ (widthOf : ℕ → ℕ) (m : Map) where
     pub pack-past : drop (lengthOf widthOf m) (packedBy widthOf m numbers out .memory) ≡ drop (lengthOf widthOf m) out
     pack-past = ap (λ (o : Outcome). drop (lengthOf widthOf m) (o .memory)) gives ∙ drop-at (packed ss ws numbers) _ (lengthOf widthOf m) (packed-length ss ws numbers)
 
-    -- reading the L bytes gives the numbers
-    pub read-back : (room : List ℕ) → countOf m ≤ length room
-        → readBy widthOf m (take (lengthOf widthOf m) (packedBy widthOf m numbers out .memory)) room ≡ outcome (done (countOf m)) (numbers ++ drop (countOf m) room)
-    read-back room l =
-        ap (λ (o : Outcome). readBy widthOf m (take (lengthOf widthOf m) (o .memory)) room) gives
-        ∙ ap (λ (x : List ℕ). readBy widthOf m x room) (take-at (packed ss ws numbers) _ (lengthOf widthOf m) (packed-length ss ws numbers))
-        ∙ read-done (packed ss ws numbers) room (its .0) (packed-length ss ws numbers) l
-        ∙ ap (λ (x : List ℕ). outcome (done (countOf m)) (x ++ drop (countOf m) room)) (read-packed ss ws numbers apart (its .1))
+    -- reading the L bytes gives the numbers, each with its state
+    pub read-back : (room states : List ℕ) → countOf m ≤ length room → countOf m ≤ length states
+        → readBy widthOf m (take (lengthOf widthOf m) (packedBy widthOf m numbers out .memory)) room states
+        ≡ reads (done (countOf m)) (numbers ++ drop (countOf m) room) (statesOf ws numbers (countOf m) ++ drop (countOf m) states)
+    read-back room states l k =
+        ap (λ (o : Outcome). readBy widthOf m (take (lengthOf widthOf m) (o .memory)) room states) gives
+        ∙ ap (λ (x : List ℕ). readBy widthOf m x room states) (take-at (packed ss ws numbers) _ (lengthOf widthOf m) (packed-length ss ws numbers))
+        ∙ read-done (packed ss ws numbers) room states (its .0) (packed-length ss ws numbers) l k
+        ∙ ap (λ (x : List ℕ). reads (done (countOf m)) (x ++ drop (countOf m) room) (statesOf ws x (countOf m) ++ drop (countOf m) states)) (read-packed ss ws numbers apart (its .1))
 
   -- after reading answered 0: the numbers that it gave
-  module _ (payload room : List ℕ) (e : readBy widthOf m payload room .answer .number ≡ 0) where
+  module _ (payload room states : List ℕ) (e : readBy widthOf m payload room states .answer .number ≡ 0) where
     abbrev numbers : List ℕ
-    numbers = take (countOf m) (readBy widthOf m payload room .memory)
+    numbers = take (countOf m) (readBy widthOf m payload room states .numbers)
 
-    theirs : (usable widthOf m ≡ true) × (length payload ≡ lengthOf widthOf m) × (countOf m ≤ length room)
-    theirs = done-reads payload room e
+    theirs : (usable widthOf m ≡ true) × (length payload ≡ lengthOf widthOf m) × (countOf m ≤ length room) × (countOf m ≤ length states)
+    theirs = done-reads payload room states e
 
-    left : readBy widthOf m payload room ≡ outcome (done (countOf m)) (readAll ss ws payload ++ drop (countOf m) room)
-    left = read-done payload room (theirs .0) (theirs .1) (theirs .2)
+    left : readBy widthOf m payload room states ≡ readDone widthOf m payload room states
+    left = read-done payload room states (theirs .0) (theirs .1) (theirs .2) (theirs .3)
 
     many : length (readAll ss ws payload) ≡ countOf m
     many = read-length ss ws payload ∙ lists-length widthOf m .1
 
     numbers-are : numbers ≡ readAll ss ws payload
-    numbers-are = ap (λ (o : Outcome). take (countOf m) (o .memory)) left ∙ take-at (readAll ss ws payload) _ (countOf m) many
+    numbers-are = ap (λ (r : Reading). take (countOf m) (r .numbers)) left ∙ take-at (readAll ss ws payload) _ (countOf m) many
 
     fit : Fit ss ws numbers
     fit = rw numbers-are (read-fit ss ws payload)
 
+    -- the states are those of the numbers
+    pub read-states : take (countOf m) (readBy widthOf m payload room states .states) ≡ statesOf ws (take (countOf m) (readBy widthOf m payload room states .numbers)) (countOf m)
+    read-states =
+        ap (λ (r : Reading). take (countOf m) (r .states)) left
+        ∙ take-at (statesOf ws (readAll ss ws payload) (countOf m)) _ (countOf m) (length-tabulate _ (countOf m))
+        ∙ ap (λ (x : List ℕ). statesOf ws x (countOf m)) (sym numbers-are)
+
     -- further places keep what they held
-    pub read-past : drop (countOf m) (readBy widthOf m payload room .memory) ≡ drop (countOf m) room
-    read-past = ap (λ (o : Outcome). drop (countOf m) (o .memory)) left ∙ drop-at (readAll ss ws payload) _ (countOf m) many
+    pub read-past : (drop (countOf m) (readBy widthOf m payload room states .numbers) ≡ drop (countOf m) room)
+        × (drop (countOf m) (readBy widthOf m payload room states .states) ≡ drop (countOf m) states)
+    read-past = (
+      ap (λ (r : Reading). drop (countOf m) (r .numbers)) left ∙ drop-at (readAll ss ws payload) _ (countOf m) many,
+      ap (λ (r : Reading). drop (countOf m) (r .states)) left
+          ∙ drop-at (statesOf ws (readAll ss ws payload) (countOf m)) _ (countOf m) (length-tabulate _ (countOf m)),
+    )
 
     -- they never make packing answer 14, whatever the buffer
-    pub never-14 : (out : List ℕ) → packedBy widthOf m (take (countOf m) (readBy widthOf m payload room .memory)) out .answer .number ≡ 14 → ⊥
+    pub never-14 : (out : List ℕ) → packedBy widthOf m (take (countOf m) (readBy widthOf m payload room states .numbers)) out .answer .number ≡ 14 → ⊥
     unfolding packedBy
     never-14 out q =
         elim (decLt (length out) (lengthOf widthOf m)) [
@@ -216,7 +240,7 @@ module _ (widthOf : ℕ → ℕ) (m : Map) where
 
     -- and packing them gives the payload with its unassigned bits set to 1
     pub pack-back : (out : List ℕ) → lengthOf widthOf m ≤ length out
-        → packedBy widthOf m (take (countOf m) (readBy widthOf m payload room .memory)) out
+        → packedBy widthOf m (take (countOf m) (readBy widthOf m payload room states .numbers)) out
         ≡ outcome (done (lengthOf widthOf m)) (filled ss ws payload ++ drop (lengthOf widthOf m) out)
     pack-back out l =
         pack-done numbers out (theirs .0) fit l

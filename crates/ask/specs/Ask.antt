@@ -12,6 +12,7 @@ use Rattle.answers.specs.Tests.{Test, _when_, inOrder, tested}
 use Rattle.words.specs.First.{lowest}
 use Rattle.payload.specs.Payload.{packed, readAll}
 use Rattle.payload.specs.Calls.{tooWideIn}
+use Rattle.states.specs.States.{statesOf}
 use Rattle.maps.specs.Maps.{Map}
 use Rattle.judge.specs.Judge.{Param, isNone, spnIn, startIn, widthIn, spnAt, judge, usable, countOf, paramsOf, startsOf, widthsOf, lengthOf}
 use Rattle.open.specs.Open.{isHeld}
@@ -39,17 +40,36 @@ packDone widthOf m numbers out =
 unfoldable pub packedBy : (ℕ → ℕ) → Map → List ℕ → List ℕ → Outcome
 packedBy widthOf m numbers out = tested (keyTests widthOf m ++ packTests widthOf m numbers out) out (packDone widthOf m numbers out)
 
--- "Reading takes a payload of exactly L bytes and room for at least n numbers"; it packs nothing, so 14 is never given
-abbrev pub readTests : (ℕ → ℕ) → Map → List ℕ → List ℕ → List (Test Said)
-readTests widthOf m payload room = plain 13 when (not (eqb (length payload) (lengthOf widthOf m)) || ltb (length room) (countOf m)) ∷ []
+-- ---- reading
 
--- Answer 0 "of read" carries "n"; "further places keep what they held"
-abbrev pub readDone : (ℕ → ℕ) → Map → List ℕ → List ℕ → Outcome
-readDone widthOf m payload room = outcome (done (countOf m)) (readAll (startsOf widthOf m) (widthsOf widthOf m) payload ++ drop (countOf m) room)
+-- what reading answers, and what it leaves in the room for numbers and in the room for their states
+pub record Reading : Type 0 where
+  pub answer : Said
+  pub numbers : List ℕ
+  pub states : List ℕ
 
--- reading; a refusal leaves the room as it was
-unfoldable pub readBy : (ℕ → ℕ) → Map → List ℕ → List ℕ → Outcome
-readBy widthOf m payload room = tested (keyTests widthOf m ++ readTests widthOf m payload room) room (readDone widthOf m payload room)
+abbrev pub reads : Said → List ℕ → List ℕ → Reading
+reads a numbers states = record { answer = a; numbers = numbers; states = states }
+
+-- "Reading takes a payload of exactly L bytes and room for at least n numbers", and for as many states (02, Req 05); it packs nothing, so 14 is never given
+abbrev pub readTests : (ℕ → ℕ) → Map → List ℕ → List ℕ → List ℕ → List (Test Said)
+readTests widthOf m payload room states =
+    plain 13 when (not (eqb (length payload) (lengthOf widthOf m)) || ltb (length room) (countOf m) || ltb (length states) (countOf m)) ∷ []
+
+-- the numbers that a payload has by a map
+abbrev pub numbersIn : (ℕ → ℕ) → Map → List ℕ → List ℕ
+numbersIn widthOf m payload = readAll (startsOf widthOf m) (widthsOf widthOf m) payload
+
+-- Answer 0 "of read" carries "n"; "Read then says for each number whether it is valid, reserved, error or not available"; "further places keep what they held"
+abbrev pub readDone : (ℕ → ℕ) → Map → List ℕ → List ℕ → List ℕ → Reading
+readDone widthOf m payload room states =
+    reads (done (countOf m)) (numbersIn widthOf m payload ++ drop (countOf m) room)
+    (statesOf (widthsOf widthOf m) (numbersIn widthOf m payload) (countOf m) ++ drop (countOf m) states)
+
+-- reading; a refusal leaves both rooms as they were
+unfoldable pub readBy : (ℕ → ℕ) → Map → List ℕ → List ℕ → List ℕ → Reading
+readBy widthOf m payload room states =
+    inOrder (λ a. reads a room states) (keyTests widthOf m ++ readTests widthOf m payload room states) (readDone widthOf m payload room states)
 
 -- ---- finding
 

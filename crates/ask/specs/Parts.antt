@@ -2,11 +2,14 @@
 use Prim.Native.Nat.{ℕ}
 use mathlib.Core.Bool.{cond, _&&_}
 use mathlib.Core.List.{List}
-use lib.Dec.{eqb, leb}
+use lib.Dec.{eqb, leb, ltb}
+use lib.ListN.{length}
 use Rattle.answers.specs.Answers.{Said, plain, at, unusable, detailed, done, Outcome, outcome}
 use Rattle.payload.specs.declared.Laying.{Laying}
 use Rattle.payload.specs.declared.Laying.the-variants.{Done, Unplaced, Length, TooWide}
-use Rattle.payload.specs.Calls.{Left}
+use Rattle.payload.specs.Calls.{Left, reading}
+use Rattle.states.specs.States.{statesOver}
+use Rattle.ask.specs.Ask.{Reading, reads}
 use Rattle.keyrow.specs.Row.{positions, stateWord, cellWord}
 
 -- what judging answered, as the tests 11 and 12 go by it: 0 where the map is usable
@@ -28,3 +31,12 @@ saidBy (TooWide p) = detailed 14 p
 -- what payload's calls leave, as an outcome of a call of 01
 abbrev pub asOutcome : Left → Outcome
 asOutcome l = outcome (saidBy (l .laying)) (l .buffer)
+
+-- what payload's call left, and where it was done the states of its numbers
+unfoldable pub withStates : List ℕ → List ℕ → Outcome → Reading
+withStates widths states o = reads (o .answer) (o .memory) (cond (eqb (o .answer .number) 0) (statesOver widths (o .memory) states) states)
+
+-- reading by starts and widths, with the states: 13 where there is no room for a state of each
+unfoldable pub readWith : List ℕ → List ℕ → List ℕ → List ℕ → List ℕ → Reading
+readWith starts widths payload room states =
+    cond (ltb (length states) (length starts)) (reads (plain 13) room states) (withStates widths states (asOutcome (reading starts widths payload room)))

@@ -10,8 +10,8 @@ ghost use Rattle.dictionary.specs.Dictionary.{widthOf};
 ghost use Rattle.judge.specs.Judge.{countOf};
 ghost use Rattle.keyrow.specs.Row.{rowWords, positions, keyOf};
 ghost use Rattle.open.specs.Open.{judgedBy};
-ghost use Rattle.ask.specs.Ask.{packedBy, readBy, foundIn, notFound, foundBy, standingIn, nowhere, standsBy};
-ghost use Rattle.ask.specs.Parts.{readyBy, cellAt, saidBy};
+ghost use Rattle.ask.specs.Ask.{packedBy, reads, readBy, foundIn, notFound, foundBy, standingIn, nowhere, standsBy};
+ghost use Rattle.ask.specs.Parts.{readyBy, cellAt, saidBy, readWith};
 use answers::Answer;
 use answers::Judgement;
 use keyrow::FORM;
@@ -64,6 +64,28 @@ fn told(laying: Laying) -> Answer
         Laying::Length => answers::plainly(13),
         Laying::TooWide(p) => answers::with_detail(14, p as u32),
     }
+}
+
+// Reads by starts and widths, and lays the state of each number beside it: 13 where a length is wrong, that of `states` among them.
+fn read_with(
+    starts: &[u32],
+    widths: &[u32],
+    payload: &[u8],
+    room: &mut [u32],
+    states: &mut [u8],
+) -> Answer
+    ensures { λ r. ⌜ reads (inNumbers r) (now (room .exit)) (now (states .exit))
+        ≡ readWith (now (starts .entry)) (now (widths .entry)) (now (payload .entry)) (now (room .entry)) (now (states .entry)) ⌝ }
+{
+    if states.len() < starts.len() { // no room for a state of each
+        return answers::plainly(13);
+    }
+    let answer = told(payload::read(starts, widths, payload, room));
+    if answer.number != 0 { // nothing was laid
+        return answer;
+    }
+    states::lay(widths, room, states);
+    answer
 }
 
 // The lowest position from 1 to n whose SPN it is, or 0.
@@ -186,8 +208,8 @@ pub fn pack(
     told(payload::pack(&starts[..n], &widths[..n], numbers, out))
 }
 
-// Reads a payload by a key's map into the first n places of `room`: 11, 12, 13, else 0 with n. Every test is made before the first number is
-// written.
+// Reads a payload by a key's map into the first n places of `room`, and lays the state of each number into the first n of `states`: 11, 12, 13, else 0 with n. Every test
+// is made before the first number is written.
 pub fn read(
     t: &[u64; WORDS],
     source: u8,
@@ -195,9 +217,10 @@ pub fn read(
     k: u8,
     payload: &[u8],
     room: &mut [u32],
+    states: &mut [u8],
 ) -> Answer
-    ensures { λ r. ⌜ outcome (inNumbers r) (now (room .exit))
-        ≡ readBy widthOf (mapIn (now (t .entry)) (keyOf source destination k)) (now (payload .entry)) (now (room .entry)) ⌝ }
+    ensures { λ r. ⌜ reads (inNumbers r) (now (room .exit)) (now (states .exit))
+        ≡ readBy widthOf (mapIn (now (t .entry)) (keyOf source destination k)) (now (payload .entry)) (now (room .entry)) (now (states .entry)) ⌝ }
 {
     let mut spns = [0u32; POSITIONS];
     let mut starts = [0u32; POSITIONS];
@@ -216,7 +239,7 @@ pub fn read(
         return answer;
     }
     let n = map.n as usize;
-    told(payload::read(&starts[..n], &widths[..n], payload, room))
+    read_with(&starts[..n], &widths[..n], payload, room, states)
 }
 
 // Finds an SPN in a key's map: 11, 12, 18, else 0 with position, start and width.

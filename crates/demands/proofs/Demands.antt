@@ -30,6 +30,7 @@ use Rattle.dictionary.specs.Dictionary.{widthOf}
 use Rattle.bits.specs.Bits.{bit, bitAt}
 use Rattle.places.specs.Place.{bitPlace, assigned}
 use Rattle.payload.specs.Payload.{filled, Fit}
+use Rattle.states.specs.States.{statesOf}
 use Rattle.maps.specs.Maps.{Map, mapOf, SameMembers}
 use Rattle.maps.proofs.Maps.{same-map}
 use Rattle.judge.specs.Judge.{judge, usable, countOf, startsOf, widthsOf, lengthOf}
@@ -46,8 +47,8 @@ use Rattle.table.specs.Forget.{forgotten}
 use Rattle.learned.proofs.Refusals as refusals
 use Rattle.learned.proofs.Theorem as theorem
 use Rattle.open.specs.Open.{isHeld, judgedBy}
-use Rattle.ask.specs.Ask.{keyTests, packTests, packDone, packedBy, readTests, readDone, readBy, Finding, notFound, findTests, foundAt, positionOf, foundBy, Standing, nowhere, standing, standsTests, standsBy}
-use Rattle.ask.proofs.Laws.{Unusable, pack-12, read-12, find-12, pack-done, done-packs, read-done, done-reads, pack-refused, read-refused, pack-bit, pack-other, pack-past, read-back, never-14, pack-back}
+use Rattle.ask.specs.Ask.{keyTests, packTests, packDone, packedBy, Reading, reads, readTests, readDone, readBy, Finding, notFound, findTests, foundAt, positionOf, foundBy, Standing, nowhere, standing, standsTests, standsBy}
+use Rattle.ask.proofs.Laws.{Unusable, pack-12, read-12, find-12, pack-done, done-packs, read-done, done-reads, pack-refused, read-refused, pack-bit, pack-other, pack-past, read-back, read-states, never-14, pack-back}
 use Rattle.feeding.specs.declared.Tally.{Tally}
 use Rattle.listing.specs.Page.{pageOf, finished}
 use Rattle.splice.specs.Splice.{fits}
@@ -106,10 +107,10 @@ module _ (m : Map) where
       from-answers (λ (o : Outcome). o .answer .number) (λ a. outcome a out) (λ a. refl) (keyTests widthOf m ++ packTests widthOf m numbers out) (packDone widthOf m numbers out)
 
   -- reading: 0, 11, 12 and 13
-  pub read-list : (payload room : List ℕ) → oneOf (readBy widthOf m payload room .answer .number) (0 ∷ 11 ∷ 12 ∷ 13 ∷ []) ≡ true
+  pub read-list : (payload room states : List ℕ) → oneOf (readBy widthOf m payload room states .answer .number) (0 ∷ 11 ∷ 12 ∷ 13 ∷ []) ≡ true
   unfolding readBy
-  read-list payload room =
-      from-answers (λ (o : Outcome). o .answer .number) (λ a. outcome a room) (λ a. refl) (keyTests widthOf m ++ readTests widthOf m payload room) (readDone widthOf m payload room)
+  read-list payload room states =
+      from-answers (λ (r : Reading). r .answer .number) (λ a. reads a room states) (λ a. refl) (keyTests widthOf m ++ readTests widthOf m payload room states) (readDone widthOf m payload room states)
 
   -- finding: 0, 11, 12 and 18
   pub find-list : (spn : ℕ) → oneOf (foundBy widthOf m spn .answer .number) (0 ∷ 11 ∷ 12 ∷ 18 ∷ []) ≡ true
@@ -169,7 +170,8 @@ module _ (m : Map) where
   pub pack-leaves : (numbers out : List ℕ) → (packedBy widthOf m numbers out .answer .number ≡ 0 → ⊥) → packedBy widthOf m numbers out .memory ≡ out
   pack-leaves = pack-refused widthOf m
 
-  pub read-leaves : (payload room : List ℕ) → (readBy widthOf m payload room .answer .number ≡ 0 → ⊥) → readBy widthOf m payload room .memory ≡ room
+  pub read-leaves : (payload room states : List ℕ) → (readBy widthOf m payload room states .answer .number ≡ 0 → ⊥)
+      → (readBy widthOf m payload room states .numbers ≡ room) × (readBy widthOf m payload room states .states ≡ states)
   read-leaves = read-refused widthOf m
 
 pub finish-leaves : (t : List ℕ) (s : Tally) (out : List ℕ) → (finished t s out .answer .number ≡ 0 → ⊥) → finished t s out .memory ≡ out
@@ -206,13 +208,14 @@ module _ (m : Map) where
   -- pack, read and find refuse a map with 12 exactly where it is held and its judgement isn't 0
   pub record Refused : Type 0 where
     pub pack : (numbers out : List ℕ) → (packedBy widthOf m numbers out .answer .number ≡ 12 → Unusable widthOf m) × (Unusable widthOf m → packedBy widthOf m numbers out .answer .number ≡ 12)
-    pub read : (payload room : List ℕ) → (readBy widthOf m payload room .answer .number ≡ 12 → Unusable widthOf m) × (Unusable widthOf m → readBy widthOf m payload room .answer .number ≡ 12)
+    pub read : (payload room states : List ℕ) → (readBy widthOf m payload room states .answer .number ≡ 12 → Unusable widthOf m)
+        × (Unusable widthOf m → readBy widthOf m payload room states .answer .number ≡ 12)
     pub find : (spn : ℕ) → (foundBy widthOf m spn .answer .number ≡ 12 → Unusable widthOf m) × (Unusable widthOf m → foundBy widthOf m spn .answer .number ≡ 12)
 
   pub refused-12 : Refused
   refused-12 = record {
     pack = λ numbers out. let (a, b) = pack-12 widthOf m numbers out in (a, λ u. ap (λ (o : Outcome). o .answer .number) (b u));
-    read = λ payload room. let (a, b) = read-12 widthOf m payload room in (a, λ u. ap (λ (o : Outcome). o .answer .number) (b u));
+    read = λ payload room states. let (a, b) = read-12 widthOf m payload room states in (a, λ u. ap (λ (r : Reading). r .answer .number) (b u));
     find = λ spn. let (a, b) = find-12 widthOf m spn in (a, λ u. ap (λ (f : Finding). f .answer .number) (b u));
   }
 
@@ -221,9 +224,11 @@ module _ (m : Map) where
   pub packs-when : (numbers out : List ℕ) → (packedBy widthOf m numbers out .answer .number ≡ 0) ↔ ((usable widthOf m ≡ true) × Fit starts widths numbers × (lengthOf widthOf m ≤ length out))
   packs-when numbers out = (done-packs widthOf m numbers out, λ h. ap (λ (o : Outcome). o .answer .number) (pack-done widthOf m numbers out (h .0) (h .1) (h .2)))
 
-  -- a usable map, a payload of exactly L bytes and room for at least n numbers ARE read, and only these
-  pub reads-when : (payload room : List ℕ) → (readBy widthOf m payload room .answer .number ≡ 0) ↔ ((usable widthOf m ≡ true) × (length payload ≡ lengthOf widthOf m) × (countOf m ≤ length room))
-  reads-when payload room = (done-reads widthOf m payload room, λ h. ap (λ (o : Outcome). o .answer .number) (read-done widthOf m payload room (h .0) (h .1) (h .2)))
+  -- a usable map, a payload of exactly L bytes and room for at least n numbers and n states ARE read, and only these
+  pub reads-when : (payload room states : List ℕ) → (readBy widthOf m payload room states .answer .number ≡ 0)
+      ↔ ((usable widthOf m ≡ true) × (length payload ≡ lengthOf widthOf m) × (countOf m ≤ length room) × (countOf m ≤ length states))
+  reads-when payload room states =
+      (done-reads widthOf m payload room states, λ h. ap (λ (r : Reading). r .answer .number) (read-done widthOf m payload room states (h .0) (h .1) (h .2) (h .3)))
 
   -- ---- the bits
 
@@ -232,8 +237,9 @@ module _ (m : Map) where
     pub bits : (i k : ℕ) → i < countOf m → k < getD widths i 0 → bitAt (packedBy widthOf m numbers out .memory) (bitPlace starts widths i k) ≡ bit (getD numbers i 0) k
     pub others : (p : ℕ) → p < 8 * lengthOf widthOf m → assigned starts widths p ≡ false → bitAt (packedBy widthOf m numbers out .memory) p ≡ 1
     pub past : drop (lengthOf widthOf m) (packedBy widthOf m numbers out .memory) ≡ drop (lengthOf widthOf m) out
-    pub back : (room : List ℕ) → countOf m ≤ length room
-        → readBy widthOf m (take (lengthOf widthOf m) (packedBy widthOf m numbers out .memory)) room ≡ outcome (done (countOf m)) (numbers ++ drop (countOf m) room)
+    pub back : (room states : List ℕ) → countOf m ≤ length room → countOf m ≤ length states
+        → readBy widthOf m (take (lengthOf widthOf m) (packedBy widthOf m numbers out .memory)) room states
+        ≡ reads (done (countOf m)) (numbers ++ drop (countOf m) room) (statesOf widths numbers (countOf m) ++ drop (countOf m) states)
 
   pub demand-2-pack : (numbers out : List ℕ) → packedBy widthOf m numbers out .answer .number ≡ 0 → Packed numbers out
   demand-2-pack numbers out e = record {
@@ -243,15 +249,20 @@ module _ (m : Map) where
     back = read-back widthOf m numbers out e;
   }
 
-  -- after read answered 0: its numbers never make pack answer 14, and packing them gives the payload with its unassigned bits set to 1
-  pub record Read (payload room : List ℕ) : Type 0 where
-    pub fit : (out : List ℕ) → packedBy widthOf m (take (countOf m) (readBy widthOf m payload room .memory)) out .answer .number ≡ 14 → ⊥
+  -- after read answered 0: its numbers never make pack answer 14, and packing them gives the payload with its unassigned bits set to 1; and beside each stands its state
+  pub record Read (payload room states : List ℕ) : Type 0 where
+    pub fit : (out : List ℕ) → packedBy widthOf m (take (countOf m) (readBy widthOf m payload room states .numbers)) out .answer .number ≡ 14 → ⊥
     pub back : (out : List ℕ) → lengthOf widthOf m ≤ length out
-        → packedBy widthOf m (take (countOf m) (readBy widthOf m payload room .memory)) out
+        → packedBy widthOf m (take (countOf m) (readBy widthOf m payload room states .numbers)) out
         ≡ outcome (done (lengthOf widthOf m)) (filled starts widths payload ++ drop (lengthOf widthOf m) out)
+    pub beside : take (countOf m) (readBy widthOf m payload room states .states) ≡ statesOf widths (take (countOf m) (readBy widthOf m payload room states .numbers)) (countOf m)
 
-  pub demand-2-read : (payload room : List ℕ) → readBy widthOf m payload room .answer .number ≡ 0 → Read payload room
-  demand-2-read payload room e = record { fit = never-14 widthOf m payload room e; back = pack-back widthOf m payload room e }
+  pub demand-2-read : (payload room states : List ℕ) → readBy widthOf m payload room states .answer .number ≡ 0 → Read payload room states
+  demand-2-read payload room states e = record {
+    fit = never-14 widthOf m payload room states e;
+    back = pack-back widthOf m payload room states e;
+    beside = read-states widthOf m payload room states e;
+  }
 
 -- ==== Demand 3: "every answer about a key is the one 01 defines from the collection of different well-formed messages naming it since its last forget"
 
@@ -260,7 +271,7 @@ pub record Answers (m n : Map) : Type 0 where
   pub count : countOf m ≡ countOf n
   pub judge : judgedBy widthOf m ≡ judgedBy widthOf n
   pub pack : (numbers out : List ℕ) → packedBy widthOf m numbers out ≡ packedBy widthOf n numbers out
-  pub read : (payload room : List ℕ) → readBy widthOf m payload room ≡ readBy widthOf n payload room
+  pub read : (payload room states : List ℕ) → readBy widthOf m payload room states ≡ readBy widthOf n payload room states
   pub find : (spn : ℕ) → foundBy widthOf m spn ≡ foundBy widthOf n spn
   pub stands : (p : ℕ) → standsBy widthOf m p ≡ standsBy widthOf n p
 
@@ -269,7 +280,7 @@ same-answers m n e = record {
   count = ap countOf e;
   judge = ap (judgedBy widthOf) e;
   pack = λ numbers out. ap (λ (x : Map). packedBy widthOf x numbers out) e;
-  read = λ payload room. ap (λ (x : Map). readBy widthOf x payload room) e;
+  read = λ payload room states. ap (λ (x : Map). readBy widthOf x payload room states) e;
   find = λ spn. ap (λ (x : Map). foundBy widthOf x spn) e;
   stands = λ p. ap (λ (x : Map). standsBy widthOf x p) e;
 }

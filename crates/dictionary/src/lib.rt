@@ -13,6 +13,12 @@ pub enum Found {
     Nothing,
 }
 
+// What one look-up gives: where the SPN stands, and the width of its parameter, 0 where it stands nowhere.
+pub struct Entry {
+    pub found: Found,
+    pub width: u32,
+}
+
 // What a turn of halving goes down by: half of the rows that are left, or nothing. A step that is subtracted compiles to fewer jumps than a branch that
 // sets the place, and a jump of a search is one that no processor foresees (docs/landings/req-02.md).
 fn step(down: bool, half: usize) -> usize
@@ -45,19 +51,31 @@ fn row_in(rows: &[[u32; 2]], spn: u32) -> Found
     Found::Nothing
 }
 
-// The width of the SPN's parameter by the same rows, and 0 where they haven't it.
-fn width_in(rows: &[[u32; 2]], spn: u32) -> u32
+// The row that has the SPN by the same rows, and its width; 0 where none has it.
+fn entry_in(rows: &[[u32; 2]], spn: u32) -> Entry
     requires { ⌜ now rows ≡ pairs ⌝ }
-    ensures { λ r. ⌜ r ≡ widthOf spn ⌝ }
+    ensures { λ r. ⌜ (foundRow (r .found) ≡ numberOf spn) × (r .width ≡ widthOf spn) ⌝ }
 {
     let found = row_in(rows, spn);
     match found {
         Found::At(i) => {
             let row = rows[i];
-            row[1]
+            Entry {
+                found,
+                width: row[1],
+            }
         }
-        Found::Nothing => 0,
+        Found::Nothing => Entry { found, width: 0 },
     }
+}
+
+// The width alone.
+fn width_in(rows: &[[u32; 2]], spn: u32) -> u32
+    requires { ⌜ now rows ≡ pairs ⌝ }
+    ensures { λ r. ⌜ r ≡ widthOf spn ⌝ }
+{
+    let entry = entry_in(rows, spn);
+    entry.width
 }
 
 // Where the SPN stands in the dictionary.
@@ -66,6 +84,14 @@ pub fn row_of(spn: u32) -> Found
 {
     let rows = rows::all();
     row_in(&rows, spn)
+}
+
+// Where the SPN stands in the dictionary, and its width, by one look-up.
+pub fn entry_of(spn: u32) -> Entry
+    ensures { λ r. ⌜ (foundRow (r .found) ≡ numberOf spn) × (r .width ≡ widthOf spn) ⌝ }
+{
+    let rows = rows::all();
+    entry_in(&rows, spn)
 }
 
 // The width of the SPN's parameter in bits, and 0 where the dictionary hasn't it; at most 32 (law width-most).

@@ -11,11 +11,15 @@ use Rattle.feeding.specs.declared.Tally.{Tally}
 use Rattle.firmware.specs.declared.Held.{Held}
 use Rattle.firmware.specs.declared.Located.{Located}
 use Rattle.firmware.specs.declared.Log.{Log}
+use Rattle.firmware.specs.declared.Meant.{Meant}
+use Rattle.firmware.specs.declared.Measured.{Measured}
 use Rattle.firmware.specs.declared.Placed.{Placed}
+use Rattle.meaning.specs.declared.Meaning.{Meaning}
+use Rattle.meaning.specs.declared.Scaled.{Scaled}
 
 -- the version of the exported calls: one more when a caller must be built again or changed
 abbrev pub version : ℕ
-version = 2
+version = 3
 
 -- an answer: its four fields are the four of `Said`
 abbrev pub saidTo : Told → Said
@@ -32,6 +36,14 @@ findingTo f = record { answer = saidTo (f .told); position = f .position; start 
 -- the parameter at a position
 abbrev pub standingTo : Placed → Standing
 standingTo p = record { answer = saidTo (p .told); spn = p .spn; start = p .start; width = p .width }
+
+-- what an SPN's numbers are
+abbrev pub meantOf : Meaning → Meant
+meantOf m = record { offset = m .offset; resolution = m .resolution; width = m .width; kind = m .kind }
+
+-- a number in thousandths of its unit
+abbrev pub measuredOf : Scaled → Measured
+measuredOf s = record { value = s .value; kind = s .kind; state = s .state }
 
 -- a held key: 1 and the key, or four times 0
 abbrev pub heldOf : Option Key → Held

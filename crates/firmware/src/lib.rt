@@ -9,13 +9,14 @@ ghost use Rattle.lookup.specs.Next.{keyFound, firstKey, nextKey};
 ghost use Rattle.lookup.specs.View.{mapIn};
 ghost use Rattle.judge.specs.Judge.{countOf};
 ghost use Rattle.dictionary.specs.Dictionary.{widthOf};
-ghost use Rattle.ask.specs.Ask.{packedBy, readBy, foundIn, foundBy, standingIn, standsBy};
+ghost use Rattle.ask.specs.Ask.{packedBy, reads, readBy, foundIn, foundBy, standingIn, standsBy};
 ghost use Rattle.open.specs.Open.{judgedBy};
+ghost use Rattle.meaning.specs.Meaning.{meaningOf, scaledOf};
 ghost use Rattle.feeding.specs.Feed.{started, fed, feeding};
 ghost use Rattle.listing.specs.Page.{finished};
 ghost use Rattle.pairs.specs.declared.Command.the-variants.{Add, Delete, Renew};
 ghost use Rattle.ports.specs.Filters.{commanded, decided, freshWords};
-ghost use Rattle.firmware.specs.Told.{version, saidTo, toldOf, heldOf, findingTo, standingTo, tallyIn};
+ghost use Rattle.firmware.specs.Told.{meantOf, measuredOf, version, saidTo, toldOf, heldOf, findingTo, standingTo, tallyIn};
 use answers::Answer;
 use ask::Found;
 use ask::Parameter;
@@ -89,6 +90,23 @@ fn placed_in_c(parameter: Parameter) -> Placed
         start: parameter.start,
         width: parameter.width,
     }
+}
+
+// What an SPN's numbers are; all 0 where the dictionary does not have it.
+#[repr(C)]
+pub struct Meant {
+    pub offset: i64,
+    pub resolution: u32,
+    pub width: u32,
+    pub kind: u32,
+}
+
+// A number in thousandths of its unit, with its kind and its state.
+#[repr(C)]
+pub struct Measured {
+    pub value: i64,
+    pub kind: u32,
+    pub state: u32,
 }
 
 // A held key, or four times 0. The fields are what the calls on a key take.
@@ -166,7 +184,7 @@ fn tally_of(log: Log) -> Tally
 pub extern "C" fn yendrolf_version() -> u32
     ensures { λ r. ⌜ r ≡ version ⌝ }
 {
-    2
+    3
 }
 
 // ---- the learned table
@@ -250,7 +268,7 @@ pub extern "C" fn yendrolf_table_pack(
     in_c(ask::pack(t, source, destination, k, numbers, payload))
 }
 
-// Reads a payload by a key's map.
+// Reads a payload by a key's map, and lays the state of each number beside it.
 #[no_mangle]
 pub extern "C" fn yendrolf_table_read(
     t: &[u64; lookup::WORDS],
@@ -259,11 +277,13 @@ pub extern "C" fn yendrolf_table_read(
     k: u8,
     payload: &[u8],
     numbers: &mut [u32],
+    states: &mut [u8],
 ) -> Told
-    ensures { λ r. ⌜ outcome (saidTo r) (now (numbers .exit))
-        ≡ readBy widthOf (mapIn (now (t .entry)) (keyOf source destination k)) (now (payload .entry)) (now (numbers .entry)) ⌝ }
+    ensures { λ r. ⌜ reads (saidTo r) (now (numbers .exit)) (now (states .exit))
+        ≡ readBy widthOf (mapIn (now (t .entry)) (keyOf source destination k)) (now (payload .entry)) (now (numbers .entry)) (now (states .entry)) ⌝ }
 {
-    in_c(ask::read(t, source, destination, k, payload, numbers))
+    let answer = ask::read(t, source, destination, k, payload, numbers, states);
+    in_c(answer)
 }
 
 // Finds an SPN in a key's map.
@@ -313,6 +333,37 @@ pub extern "C" fn yendrolf_table_next_key(
     ensures { λ r. ⌜ r ≡ heldOf (nextKey (now (t .entry)) (keyOf source destination k)) ⌝ }
 {
     key_in_c(lookup::next_key(t, source, destination, k))
+}
+
+// ---- what numbers mean
+
+// Width, resolution, offset and kind of an SPN.
+#[no_mangle]
+pub extern "C" fn yendrolf_meaning(spn: u32) -> Meant
+    ensures { λ r. ⌜ r ≡ meantOf (meaningOf spn) ⌝ }
+{
+    let meaning = meaning::meaning_of(spn);
+    let offset = meaning.offset;
+    Meant {
+        offset,
+        resolution: meaning.resolution,
+        width: meaning.width,
+        kind: meaning.kind as u32,
+    }
+}
+
+// A number of an SPN in thousandths of its unit, with its state.
+#[no_mangle]
+pub extern "C" fn yendrolf_scaled(spn: u32, number: u32) -> Measured
+    ensures { λ r. ⌜ r ≡ measuredOf (scaledOf spn number) ⌝ }
+{
+    let scaled = meaning::scaled_of(spn, number);
+    let value = scaled.value;
+    Measured {
+        value,
+        kind: scaled.kind as u32,
+        state: scaled.state as u32,
+    }
 }
 
 // ---- the listing of a log

@@ -44,14 +44,16 @@ fn pack(t: &[u64; WORDS], b: &[u8; 14], given: &[u32], out: &mut [u8]) {
     end();
 }
 
-fn read(t: &[u64; WORDS], b: &[u8; 14], given: &mut [u32], payload: &mut [u8]) {
+fn read(t: &[u64; WORDS], b: &[u8; 14], given: &mut [u32], payload: &mut [u8], states: &mut [u8]) {
     io::read_full(STDIN_FILENO, payload);
-    number(ask::read(t, b[1], b[2], b[3], payload, given));
+    io::read_full(STDIN_FILENO, states);
+    number(ask::read(t, b[1], b[2], b[3], payload, given, states));
     numbers(given);
+    bytes(states);
     end();
 }
 
-// A call with lists: how many numbers, how many payload bytes; then those.
+// A call with lists: how many numbers, how many payload bytes, and for read how many states; then those.
 fn with_lists(t: &[u64; WORDS], b: &[u8; 14]) {
     let mut given = room();
     let mut payload = io::buffer();
@@ -60,7 +62,9 @@ fn with_lists(t: &[u64; WORDS], b: &[u8; 14]) {
     if b[0] == 12 {
         pack(t, b, &given[..g], &mut payload[..n]);
     } else {
-        read(t, b, &mut given[..g], &mut payload[..n]);
+        let mut states = [0u8; 72];
+        let s = front(two(b[7], 0), &states);
+        read(t, b, &mut given[..g], &mut payload[..n], &mut states[..s]);
     }
 }
 

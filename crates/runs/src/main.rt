@@ -14,7 +14,7 @@
 //   10 key                           what judge answers, and how many parameters the key's map has
 //   11 key, SPN                      what find answers, with position, start and width
 //   12 key, numbers, buffer          what pack answers, and the whole buffer
-//   13 key, room, payload            what read answers, and the whole room
+//   13 key, room, payload, states    what read answers, and the two whole rooms
 //   14 key, position                 what parameter_at answers, with SPN, start and width
 //   15 chunks, buffer                what the listing of a log in chunks answers, and the whole buffer as text
 mod asks;

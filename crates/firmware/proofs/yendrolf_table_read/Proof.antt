@@ -5,7 +5,7 @@ use Rattle.firmware.proofs.yendrolf_table_read.Statement.{statement}
 use Rattle.firmware.proofs.yendrolf_table_read.Tie as tie
 
 returns : tie.Need-returns
-returns c = simp (c .in-c .ensures) (c .before .before .before .read .ensures)
+returns c = simp (c .in-c .ensures) (c .before .before .before .before .before .read .ensures)
 
 pub yendrolf-table-read-spec : {M : Type 1} → statement M
-yendrolf-table-read-spec = tie.close (tie.spec (λ c κs. search needs) (λ c κs. search needs) (λ c. search needs) returns)
+yendrolf-table-read-spec = tie.close (tie.spec (λ c κs. search needs) (λ c κs. search needs) (λ c. search needs) (λ c. search needs) returns)
