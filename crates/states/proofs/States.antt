@@ -43,7 +43,7 @@ byte-has b =
     (λ m. test (eqb b 254) (λ y. rw (n, m, y) (error (eqb-true b 254 y)))
     (λ k. rw (n, m, k) (missing (omega (arith, leb-false b 253 m, eqb-false b 254 k))))))
 
-byte-is : {b s : ℕ} → Byte b s → s ≡ byByte b
+pub byte-is : {b s : ℕ} → Byte b s → s ≡ byByte b
 unfolding byByte
 byte-is {b} (valid l) = rw (le-leb b 250 l)
 byte-is {b} (reserved m l) = rw (lt-leb b 250 m, le-leb b 253 l)
@@ -57,7 +57,7 @@ bits-has x =
     (λ n. test (eqb x 2) (λ y. rw (n, y) (two (eqb-true x 2 y)))
     (λ k. rw (n, k) (three (omega (arith, leb-false x 1 n, eqb-false x 2 k)))))
 
-bits-is : {x s : ℕ} → TwoBits x s → s ≡ byTwoBits x
+pub bits-is : {x s : ℕ} → TwoBits x s → s ≡ byTwoBits x
 unfolding byTwoBits
 bits-is {x} (low l) = rw (le-leb x 1 l)
 bits-is {x} (two e) = rw e

@@ -11,7 +11,7 @@ less-requires c κs =
     let s = c .before .slot-in in
     let e = c .before .before .entry-of in
     let b = found-small _ _ _ _ _ (e .ensures .0) (e .ensures .1) refl (s .ensures) .1 in
-    (omega arith, omega (arith, b))
+    (omega (arith, b), omega (arith, b))
 
 returns : tie.Need-returns
 returns c =
