@@ -57,6 +57,7 @@ static uint8_t records[RECORDS * 13];
 static uint32_t numbers[YENDROLF_MOST_NUMBERS];
 static uint8_t payload[YENDROLF_MOST_BYTES], states[YENDROLF_MOST_NUMBERS];
 static uint32_t asked_spns[FRAMES], asked_numbers[FRAMES];
+static uint8_t requests[FRAMES][8];       /* the data of Parameter Locates */
 
 /* What pack and read find, the same for each run; 1 fits every width. */
 static void fill(void)
@@ -114,6 +115,8 @@ static const struct test {
     { "read one at the last bits", 40000, BUILT(read_1) },
     { "find one of 8", 20000, BUILT(find) },
     { "parameter at a position of 8", 80000, BUILT(parameter) },
+    { "locate an SPN in 16 keys", 20000, BUILT(locate) },
+    { "locate, asked of another", 1600000, BUILT(locate_other) },
     { "meaning", 400000, BUILT(mean) },
     { "scaled", 400000, BUILT(scale) },
     { "decide, an empty list", 1600000, BUILT(decide0) },
@@ -299,6 +302,11 @@ static void prepare(void)
         unsigned row = any() % ENTRIES;
         asked_spns[i] = i % 8 ? dictionary[row].spn : any() % 4096 + 4096;
         asked_numbers[i] = any() & (uint32_t)((1ull << dictionary[row].width) - 1);
+    }
+    for (unsigned i = 0; i < FRAMES; i++) {   /* what is located */
+        uint32_t spn = i % 8 == 0 ? 9 : i % 2 ? maps_8[any() % MAPS].spns[any() % 8] : maps_30[any() % MAPS].spns[any() % 30];
+        uint8_t data[8] = { (uint8_t)spn, (uint8_t)(spn >> 8), (uint8_t)((spn >> 16) << 5 | 31), 255, 255, 255, 255, 0 };
+        memcpy(requests[i], data, sizeof data);
     }
 }
 

@@ -98,6 +98,27 @@ MEASURED uint64_t TEST(parameter)(uint64_t n)
     return sum;
 }
 
+/* SPNs of the maps of 8 and of 30 in turn, so that at least one of the sixteen keys has it; one in eight is in none. */
+MEASURED uint64_t TEST(locate)(uint64_t n)
+{
+    static uint8_t log[YENDROLF_LOCATE_BYTES];
+    uint64_t sum = 0;
+    memset(log, 0, sizeof log);
+    for (uint64_t i = 0; i < n; i++)
+        sum += CALL(table_locate)(box.table, 38, 0x18af26f9, 8, requests[i % FRAMES], log, sizeof log, 0).detail + log[i % sizeof log];
+    return sum;
+}
+
+/* The same, asked of 39. */
+MEASURED uint64_t TEST(locate_other)(uint64_t n)
+{
+    static uint8_t log[YENDROLF_LOCATE_BYTES];
+    uint64_t sum = 0;
+    for (uint64_t i = 0; i < n; i++)
+        sum += CALL(table_locate)(box.table, 38, 0x18af27f9, 8, requests[i % FRAMES], log, sizeof log, i % 256).number;
+    return sum;
+}
+
 /* One SPN in eight is not in the dictionary. */
 MEASURED uint64_t TEST(mean)(uint64_t n)
 {

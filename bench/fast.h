@@ -20,6 +20,7 @@ yendrolf_told FAST(table_read)(const uint64_t *table, uint8_t source, uint8_t de
     uint32_t *numbers, size_t room, uint8_t *states, size_t places);
 yendrolf_found FAST(table_find)(const uint64_t *table, uint8_t source, uint8_t destination, uint8_t k, uint32_t spn);
 yendrolf_parameter FAST(table_parameter_at)(const uint64_t *table, uint8_t source, uint8_t destination, uint8_t k, uint8_t position);
+yendrolf_told FAST(table_locate)(const uint64_t *table, uint8_t own, uint32_t identifier, uint8_t length, const uint8_t *data, uint8_t *log, size_t size, size_t start);
 yendrolf_meant FAST(meaning)(uint32_t spn);
 yendrolf_value FAST(scaled)(uint32_t spn, uint32_t number);
 yendrolf_key FAST(table_first_key)(const uint64_t *table);

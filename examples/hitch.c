@@ -1,6 +1,6 @@
 /* A header's box in C, from its start to a day's work: it learns document 01's case A from two frames, judges it, packs and reads a payload, tells a pressure from
-   'not available', finds a parameter, meets a contradiction and forgets, lists a log, and keeps an engine's frames off one port. examples/run builds it, runs it, and compares what it
-   prints with examples/hitch.txt. */
+   'not available', finds a parameter, answers a tester's Parameter Locate, meets a contradiction and forgets, lists a log, and keeps an engine's frames off one
+   port. examples/run builds it, runs it, and compares what it prints with examples/hitch.txt. */
 #include <inttypes.h>
 #include <stdio.h>
 
@@ -86,6 +86,29 @@ int main(void)
     yendrolf_found found = yendrolf_find(&box, 38, 39, 1, 1519);
     say("find 1519", found.told);
     printf("%-34s position %u, start %u, width %u\n", "it stands at", found.position, found.start, found.width);
+
+    /* The header's own address is 38. A tester (249) asks it where SPN 1519 is: bytes 1 to 3 are the SPN, reserved bits 1, byte 8 is command 0. The answer is a log, from byte
+       0 of it on; each of its records is a frame to be sent. Another box that hears it learns where 1519 is in that message, and lacks position 1. */
+    static const uint8_t asked[8] = { 0xef, 0x05, 0x1f, 0xff, 0xff, 0xff, 0xff, 0x00 };
+    static yendrolf_box tester;
+    uint8_t answers[YENDROLF_LOCATE_BYTES];
+    yendrolf_told located = yendrolf_locate(&box, 38, 0x18af26f9, 8, asked, answers, sizeof answers, 0);
+    say("locate 1519, asked of 38", located);
+    yendrolf_start(&tester);
+    for (uint32_t i = 0; i < located.detail; i++) {
+        const uint8_t *r = answers + i * YENDROLF_RECORD_BYTES;
+        uint32_t identifier = r[0] | (uint32_t)r[1] << 8 | (uint32_t)r[2] << 16 | (uint32_t)r[3] << 24;
+        printf("%-34s %08" PRIX32 " %u ", "the frame to send", identifier, r[4]);
+        for (unsigned j = 5; j < YENDROLF_RECORD_BYTES; j++)
+            printf(" %02X", r[j]);
+        printf("\n");
+        say("the tester learns from it", yendrolf_learn(&tester, identifier, r[4], r + 5));
+    }
+    yendrolf_parameter heard = yendrolf_parameter_at(&tester, 38, 39, 1, 2);
+    printf("%-34s SPN %u, start %u, width %u\n", "what it has at position 2", heard.spn, heard.start, heard.width);
+    say("it judges: position 1 is missing", yendrolf_judge(&tester, 38, 39, 1));
+    say("locate 1519, asked of 39", yendrolf_locate(&box, 38, 0x18af27f9, 8, asked, answers, sizeof answers, 0));
+    say("locate into 12 bytes", yendrolf_locate(&box, 38, 0x18af26f9, 8, asked, answers, 12, 0));
 
     say("learn another start for position 2", yendrolf_learn(&box, 0x18b02726, 8, other));
     say("judge: in conflict", yendrolf_judge(&box, 38, 39, 1));

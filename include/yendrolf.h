@@ -1,5 +1,5 @@
-/* The box for C: learning Configuration Identification Messages, judging maps, packing and reading payloads, what a number means, the listing of a log, and
- * the filter of a bridge of four ports. examples/hitch.c has the calls at work; examples/socketcan.c is a loop on Linux' CAN sockets.
+/* The box for C: learning Configuration Identification Messages, judging maps, packing and reading payloads, what a number means, the answer to a Parameter Locate,
+ * the listing of a log, and the filter of a bridge of four ports. examples/hitch.c has the calls at work; examples/socketcan.c is a loop on Linux' CAN sockets.
  *
  * Link with the archive that `rt staticlib firmware` writes (target/staticlib/libfirmware.a). Every function of it is proved against its contract
  * (crates/firmware); this header is not: tests/header and tests/compare/run compare it with the archive.
@@ -7,7 +7,7 @@
  * What it needs:
  * - x86-64 Linux, no other machine, and a compiler of C99 or C++11 or later.
  * - memcpy and memset, which the archive's code calls and which C's library has. It calls nobody else, allocates nothing and keeps nothing between calls.
- * - Stack below the caller's own, in bytes: finish 3,200; judge, pack, read and find 2,500; parameter_at, meaning and scaled 1,700; every other call 400. It is a bound from the
+ * - Stack below the caller's own, in bytes: finish 3,200; locate 2,700; judge, pack, read and find 2,500; parameter_at, meaning and scaled 1,700; every other call 400. It is a bound from the
  *   archive's code (tests/stack), with 120 for the header's own function where the compiler does not inline it; what memcpy and memset take is not in it.
  *
  * How to call it:
@@ -46,11 +46,11 @@ extern "C" {
 /* The version of the calls: one more when a caller must be built again or changed. yendrolf_version() is that of the archive. */
 #define YENDROLF_VERSION 3u
 
-/* The numbers of answers (document 01, "Answer numbers"). */
+/* The numbers of answers (document 01, "Answer numbers"; from 21 on document 02, where a number that is not here is not given yet). */
 enum yendrolf_answer {
     YENDROLF_DONE = 0,
     YENDROLF_BAD_IDENTIFIER = 1,        /* identifier above 2^29 - 1 */
-    YENDROLF_OTHER_PGN = 2,             /* PGN is not the Configuration Identification PGN */
+    YENDROLF_OTHER_PGN = 2,             /* PGN is not the Configuration Identification PGN; of locate, not 44800 */
     YENDROLF_BAD_LENGTH = 3,            /* length is not 8 */
     YENDROLF_BAD_SOURCE = 4,            /* source 254 or 255 */
     YENDROLF_NOT_CONFIGURABLE = 5,      /* configured PGN not one of the fifteen */
@@ -68,7 +68,8 @@ enum yendrolf_answer {
     YENDROLF_BAD_PGN = 17,              /* PGN above 262143, or PF below 240 with a low byte other than 0 */
     YENDROLF_NOT_LISTED = 18,           /* SPN not in the map, nothing at the position, or PGN not in the list */
     YENDROLF_BAD_MODE = 19,             /* filter mode not 0 or 1 */
-    YENDROLF_LIST_NOT_EMPTY = 20        /* never given: no command changes a mode and keeps the list */
+    YENDROLF_LIST_NOT_EMPTY = 20,       /* never given: no command changes a mode and keeps the list */
+    YENDROLF_BAD_COMMAND = 24           /* a command byte that is not 0 */
 };
 
 /* The judgement of a map: the first of these that applies, with the lowest position that it applies to (0 where it is about no position). */
@@ -125,6 +126,7 @@ enum yendrolf_size {
     YENDROLF_FRAME_BYTES = 8,           /* data bytes of a frame */
     YENDROLF_RECORD_BYTES = 13,         /* bytes of a log's record */
     YENDROLF_LISTING_BYTES = 512,       /* enough for any listing */
+    YENDROLF_LOCATE_BYTES = 208,        /* enough for any answer to a Parameter Locate: a record for each of 16 keys */
     YENDROLF_STACK_BYTES = 3200         /* stack of any call at most */
 };
 
@@ -256,6 +258,8 @@ yendrolf_told yendrolf_table_read(const uint64_t *table, uint8_t source, uint8_t
     uint32_t *numbers, size_t room, uint8_t *states, size_t places);
 yendrolf_found yendrolf_table_find(const uint64_t *table, uint8_t source, uint8_t destination, uint8_t k, uint32_t spn);
 yendrolf_parameter yendrolf_table_parameter_at(const uint64_t *table, uint8_t source, uint8_t destination, uint8_t k, uint8_t position);
+yendrolf_told yendrolf_table_locate(const uint64_t *table, uint8_t own, uint32_t identifier, uint8_t length, const uint8_t *data,
+    uint8_t *log, size_t size, size_t start);
 yendrolf_key yendrolf_table_first_key(const uint64_t *table);
 yendrolf_key yendrolf_table_next_key(const uint64_t *table, uint8_t source, uint8_t destination, uint8_t k);
 yendrolf_log yendrolf_table_feed(uint64_t *table, yendrolf_log log, const uint8_t *chunk, size_t size);
@@ -331,6 +335,18 @@ static inline yendrolf_found yendrolf_find(const yendrolf_box *box, uint8_t sour
 static inline yendrolf_parameter yendrolf_parameter_at(const yendrolf_box *box, uint8_t source, uint8_t destination, uint8_t k, uint8_t position)
 {
     return yendrolf_table_parameter_at(box->table, source, destination, k, position);
+}
+
+/* Answers a Parameter Locate (PGN 44800, SAE J1939-74, 5.3.2), `own` being our own address. For each key of our own whose map is usable and has the SPN that is asked
+   for, rising, it lays a Configuration Identification Message as a record of 13 bytes (as yendrolf_feed takes them) into `log`, which has `size` bytes, from byte `start` on;
+   the bytes before and behind these keep what they held. 1; 2 where the PGN is not 44800; 3; 24 where the command (data byte 8) is not 0; 13 where `start` and 13 bytes a
+   message are above `size`, whatever `start` is; or 0 with the number of messages as its detail. That is 0 where no such key has the SPN, and where the request is
+   for another single address than `own`: a request is for `own` or for all (255). Each record is sent as it stands, its destination being the key's and not the
+   asker's, within 200 ms of the request. A record learned by a box that has the key's map changes nothing. 208 bytes behind `start` are always enough. */
+static inline yendrolf_told yendrolf_locate(const yendrolf_box *box, uint8_t own, uint32_t identifier, uint8_t length, const uint8_t *data,
+    uint8_t *log, size_t size, size_t start)
+{
+    return yendrolf_table_locate(box->table, own, identifier, length, data, log, size, start);
 }
 
 /* The lowest held key, by source, then destination, then k, and the lowest above a given one (which need not be held). Keys in conflict are held. */

@@ -1,6 +1,7 @@
-"""What the programs `vectors`, `runs` and `meanings` are run on, and what the model says they must write."""
+"""What the programs `vectors`, `runs`, `meanings` and `locates` are run on, and what the model says they must write."""
 import keys
 import lists
+import locates
 import logs
 import meanings
 import pairs
@@ -13,6 +14,7 @@ def files():
     yield from written("vectors", [*rooms.cases(Dice(74)), *lists.cases(Dice(2010))])
     yield from written("runs", [*pairs.cases(Dice(31)), *keys.cases(Dice(1939)), *logs.cases(Dice(13))])
     yield from written("meanings", [*meanings.cases(Dice(71))])
+    yield from written("locates", [*locates.cases(Dice(44800))])
 
 
 def written(program, cases):

@@ -11,7 +11,7 @@ static uint32_t answer_or_judgement(yendrolf_told told)
     case YENDROLF_BAD_IDENTIFIER: case YENDROLF_OTHER_PGN: case YENDROLF_BAD_LENGTH: case YENDROLF_BAD_SOURCE: case YENDROLF_NOT_CONFIGURABLE:
     case YENDROLF_BAD_FLAG: case YENDROLF_BAD_POSITION: case YENDROLF_BAD_START: case YENDROLF_TABLE_FULL: case YENDROLF_CONTRADICTED:
     case YENDROLF_NOT_HELD: case YENDROLF_BAD_BUFFER: case YENDROLF_TOO_WIDE: case YENDROLF_BAD_PORTS: case YENDROLF_LIST_FULL: case YENDROLF_BAD_PGN:
-    case YENDROLF_NOT_LISTED: case YENDROLF_BAD_MODE: case YENDROLF_LIST_NOT_EMPTY: return told.number;
+    case YENDROLF_NOT_LISTED: case YENDROLF_BAD_MODE: case YENDROLF_LIST_NOT_EMPTY: case YENDROLF_BAD_COMMAND: return told.number;
     case YENDROLF_NOT_USABLE: break;
     default: return 0;
     }
@@ -52,7 +52,8 @@ static uint32_t bits_of(yendrolf_meant meant)
 int main(void)
 {
     static const uint8_t data[YENDROLF_FRAME_BYTES] = { 0x00, 0xb1, 0x00, 0xed, 0x05, 0x01, 0x81, 1 };
-    static uint8_t payload[YENDROLF_MOST_BYTES], text[YENDROLF_LISTING_BYTES], record[YENDROLF_RECORD_BYTES];
+    static const uint8_t asked[YENDROLF_FRAME_BYTES] = { 0xed, 0x05, 0x1f, 0xff, 0xff, 0xff, 0xff, 0 };
+    static uint8_t payload[YENDROLF_MOST_BYTES], text[YENDROLF_LISTING_BYTES], record[YENDROLF_RECORD_BYTES], located[YENDROLF_LOCATE_BYTES];
     static uint32_t numbers[YENDROLF_MOST_NUMBERS];
     static uint8_t states[YENDROLF_MOST_NUMBERS];
     uint32_t sum = 0, held = 0;
@@ -63,6 +64,10 @@ int main(void)
     yendrolf_empty(&box);
     yendrolf_fresh(&box);
     sum += answer_or_judgement(yendrolf_learn(&box, 0x18b02726, YENDROLF_FRAME_BYTES, data));
+    yendrolf_told answered = yendrolf_locate(&box, 38, 0x18af26f9, YENDROLF_FRAME_BYTES, asked, located, sizeof located, 0);
+    if (answered.number != YENDROLF_DONE || answered.detail != 1 || located[0] != 38 || located[12] != 1)
+        return 1;
+    sum += answer_or_judgement(yendrolf_locate(&box, 38, 0x18af26f9, YENDROLF_FRAME_BYTES, data, located, sizeof located, 0));   /* 24: its last byte is 1 */
     for (yendrolf_key key = yendrolf_first_key(&box); key.held; key = yendrolf_next_key(&box, key.source, key.destination, key.k)) {
         uint32_t n = yendrolf_count(&box, key.source, key.destination, key.k);   /* what a key has goes back in as it is */
         yendrolf_told judged = yendrolf_judge(&box, key.source, key.destination, key.k);

@@ -162,10 +162,12 @@ def some_key(dice):
     return dice.one_of([0, 38, dice.below(254), 253]), dice.one_of([0, 39, dice.below(256), 254, 255]), dice.within(1, 15)
 
 
-def teachable(dice, key, n, bits=249):
-    """The messages of a usable map that the wire can carry: starts up to 249."""
+def teachable(dice, key, n, bits=249, having=None):
+    """The messages of a usable map that the wire can carry: starts up to 249. Where an SPN is named, it stands at one of the positions."""
     while True:
         spns = dice.some(n, KNOWN)
+        if having is not None and having not in spns:
+            spns[dice.below(n)] = having
         start, placed = dice.one_of([0, 0, dice.below(9), dice.below(60)]), []
         for spn in spns:
             start += dice.one_of([0, 0, 0, 1, dice.below(6)])

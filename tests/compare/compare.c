@@ -41,16 +41,18 @@ static yendrolf_box before;           /* the library's before the call */
 
 static uint64_t seed, calls, checks;
 
-enum call { LEARN, FORGET, COUNT, JUDGE, PACK, READ, FIND, PARAMETER, MEANING, SCALED, KEYS, ADD, DELETE, RENEW, DECIDE, LIST, KINDS };
-static const char *const call_names[KINDS] = { "learn", "forget", "count", "judge", "pack", "read", "find", "parameter", "meaning", "scaled", "next key", "add",
+enum call { LEARN, FORGET, COUNT, JUDGE, PACK, READ, FIND, PARAMETER, LOCATE, MEANING, SCALED, KEYS, ADD, DELETE, RENEW, DECIDE, LIST, KINDS };
+static const char *const call_names[KINDS] = { "learn", "forget", "count", "judge", "pack", "read", "find", "parameter", "locate", "meaning", "scaled", "next key", "add",
     "delete", "renew", "decide", "listing" };
-static uint64_t answers[KINDS][21], kinds[KINDS];
+#define LAST_ANSWER 24                /* 21 to 23 are not given yet */
+static uint64_t answers[KINDS][LAST_ANSWER + 1], kinds[KINDS];
 static uint64_t judgements[2][9];     /* of judging, and of answer 12 */
 static uint64_t pass_or_block[2], longest, most_numbers;
 static uint64_t unknown_told;         /* parameters whose SPN the dictionary has not */
 static uint64_t states_read[4];       /* of numbers that were read */
 static uint64_t scaled_told[6][4];    /* of scaling, by kind and state */
 static uint64_t below_zero;           /* values */
+static uint64_t located[17];          /* answers to a Parameter Locate, by their messages */
 
 static char told_call[512];           /* the call under way, for a report */
 
@@ -73,8 +75,8 @@ static void same(enum call kind, yendrolf_told a, struct plain_answer b)
         differ_answers(a, b);
     calls++;
     kinds[kind]++;
-    if (b.number > 20 || b.judgement > 8)
-        differ("no answer of document 01");
+    if (b.number > LAST_ANSWER || b.judgement > 8)
+        differ("no answer of documents 01 and 02");
     answers[kind][b.number]++;
     if (kind == JUDGE && b.number == 0)
         judgements[0][b.judgement]++;
@@ -113,6 +115,7 @@ static struct intended scene[MOST_KEYS];
 static unsigned scene_keys;
 static int laid;                      /* the maps of this scene are laid into the words, not taught by frames */
 static uint32_t scene_pgns[40];
+static uint32_t scene_spn;            /* that many maps of this scene have, or 0 */
 
 /* SPNs of each width that 002 has, and some that the dictionary has not. */
 static const uint32_t known[] = { 1488, 1489, 1490, 1497, 1517, 1519, 3146, 3147, 3148, 3149, 3150, 3151, 3152, 3153, 3154, 3155, 3329, 3330, 3333 };
@@ -122,6 +125,8 @@ static uint32_t any_spn(void)
 {
     if (one_in(200))
         return PICK(unknown);
+    if (scene_spn && one_in(3))
+        return scene_spn;
     if (one_in(3))
         return PICK(known);
     uint32_t spn;
@@ -223,10 +228,13 @@ static void set_scene(unsigned most, unsigned last)
     static const uint8_t destinations[] = { 0, 39, 253, 254, 255 };
     static const uint8_t ks[] = { 1, 2, 7, 14, 15 };
     unsigned few = below(3);
+    uint8_t one_source = PICK(sources);
+    scene_spn = one_in(3) ? PICK(known) : 0;
+    int of_one = scene_spn && one_in(2);   /* all keys of one address, and many with one SPN: what a Parameter Locate asks for */
     scene_keys = few == 0 ? 1 + below(4) : few == 1 ? 12 + below(5) : 17 + below(8);
     for (unsigned i = 0; i < scene_keys; i++) {
         struct intended *m = &scene[i];
-        m->source = PICK(sources);
+        m->source = of_one ? one_source : PICK(sources);
         m->destination = PICK(destinations);
         m->k = PICK(ks);
         intend(m, most, last);
@@ -523,6 +531,97 @@ static void parameter_at(struct intended m)
     unknown_told += b.answer.number == 0 && b.width == 0;
 }
 
+#define LOG 640
+
+/* A Parameter Locate: mostly for an SPN of the key's map, asked of its source or of all, and sometimes wrong in one way or another. */
+static struct frame any_request(struct intended m, uint8_t own)
+{
+    uint32_t spn = one_in(8) ? any_spn() : one_in(30) ? any() & 0x7ffff : scene_spn && one_in(2) ? scene_spn : m.spn[1 + below(m.n)];
+    uint32_t to = one_in(3) ? 255 : one_in(8) ? below(256) : one_in(12) ? m.destination : own;
+    struct frame f = { below(8) << 26 | 0xaf0000 | to << 8 | below(256), 8, { (uint8_t)spn, (uint8_t)(spn >> 8), (uint8_t)((spn >> 16 & 7) << 5 | 31), 255, 255, 255, 255, 0 } };
+    if (one_in(3)) {   /* the reserved bits, which count for nothing */
+        f.data[2] = (uint8_t)((f.data[2] & 0xe0) | below(32));
+        for (unsigned i = 3; i < 7; i++)
+            f.data[i] = (uint8_t)any();
+    }
+    if (one_in(20))
+        f.identifier |= 1u << (29 + below(3));
+    if (one_in(20))
+        f.identifier ^= 1u << (16 + below(10));
+    if (one_in(20))
+        f.length = (uint8_t)(one_in(2) ? below(11) : below(256));
+    if (one_in(20))
+        f.data[7] = (uint8_t)(one_in(2) ? 1u << below(8) : below(256));
+    return f;
+}
+
+/* Whether a key of this address has a map that is laid, not taught: what no message can say, documents 01 and 02 do not write. */
+static int beyond_the_wire(uint8_t own)
+{
+    for (unsigned i = 0; i < plain.held; i++)
+        for (size_t j = 0; j < plain.sets[i].count; j++) {
+            const struct plain_message *m = &plain.sets[i].messages[j];
+            if (m->source == own && (m->n > 31 || m->start > 249))
+                return 1;
+        }
+    return 0;
+}
+
+/* What was written is heard: by the box that wrote it, which it teaches nothing, and by an empty one, which then has each key with the SPN where it stood. */
+static void hear(const uint8_t *records, unsigned count, uint32_t spn)
+{
+    static yendrolf_box other;
+    yendrolf_empty(&other);
+    for (const uint8_t *r = records; r < records + 13 * count; r += 13) {
+        uint32_t identifier = r[0] | (uint32_t)r[1] << 8 | (uint32_t)r[2] << 16 | (uint32_t)r[3] << 24;
+        if (yendrolf_learn(&box, identifier, r[4], r + 5).number != 0 || yendrolf_learn(&other, identifier, r[4], r + 5).number != 0)
+            differ("a record that was written is refused");
+        unchanged();
+    }
+    unsigned keys = 0;
+    for (yendrolf_key key = yendrolf_first_key(&other); key.held; key = yendrolf_next_key(&other, key.source, key.destination, key.k)) {
+        yendrolf_found there = yendrolf_find(&box, key.source, key.destination, key.k, spn);
+        yendrolf_parameter heard = yendrolf_parameter_at(&other, key.source, key.destination, key.k, (uint8_t)there.position);
+        if (there.told.number != 0 || heard.told.number != 0 || heard.spn != spn || heard.start != there.start
+            || yendrolf_count(&other, key.source, key.destination, key.k) != yendrolf_count(&box, key.source, key.destination, key.k))
+            differ("a record that was written teaches another placement");
+        keys++;
+    }
+    if (keys != count)
+        differ("the records are not of as many keys");
+}
+
+static void locate(struct intended m)
+{
+    static uint8_t one[LOG], two[LOG];
+    uint8_t own = (uint8_t)(one_in(12) ? below(256) : m.source);
+    struct frame f = any_request(m, own);
+    unsigned need = 13 * plain_locate(&plain, own, f.identifier, f.length, f.data, two, LOG, 0).detail;
+    size_t start = one_in(3) ? 0 : one_in(2) ? 13 * below(17) : below(260);
+    size_t size = start + need + (one_in(2) ? 0 : below(60));
+    if (one_in(6))   /* one byte short of it, if there is one */
+        size = start + need > 0 ? start + need - 1 : 0;
+    if (one_in(12))
+        size = below(300);
+    if (one_in(12))
+        start = one_in(2) ? SIZE_MAX - below(300) : one_in(2) ? 0 - (size_t)need : (size_t)any() << 32 | any();
+    fill_bytes(one, two, LOG);
+    snprintf(told_call, sizeof told_call, "locate as %u, %08" PRIx32 " %u  %02x %02x %02x %02x %02x %02x %02x %02x, %zu bytes from %zu", own, f.identifier, f.length, f.data[0],
+        f.data[1], f.data[2], f.data[3], f.data[4], f.data[5], f.data[6], f.data[7], size, start);
+    yendrolf_told a = yendrolf_locate(&box, own, f.identifier, f.length, f.data, one, size, start);
+    same(LOCATE, a, plain_locate(&plain, own, f.identifier, f.length, f.data, two, size, start));
+    unchanged();
+    int wide = beyond_the_wire(own);
+    if (wide && a.number == 0)   /* then all but the records is compared */
+        memcpy(one + start, two + start, 13 * a.detail);
+    if (memcmp(one, two, LOG) != 0)
+        differ("the log");
+    if (a.number == 0)
+        located[a.detail]++;
+    if (!wide && a.number == 0)
+        hear(one + start, a.detail, f.data[0] | (uint32_t)f.data[1] << 8 | (uint32_t)(f.data[2] >> 5) << 16);
+}
+
 /* An SPN that the dictionary has, with an offset below 0 now and then; one beside it; or any. */
 static uint32_t asked_spn(void)
 {
@@ -761,6 +860,32 @@ static void lay_maps(void)
     }
 }
 
+/* Up to sixteen keys of one address that all have one SPN, for answers of many messages. */
+static void set_many(void)
+{
+    static const uint8_t sources[] = { 0, 38, 253 };
+    uint8_t source = PICK(sources);
+    scene_spn = PICK(known);
+    scene_keys = one_in(2) ? 16 : 1 + below(16);
+    for (unsigned i = 0; i < scene_keys; i++) {
+        struct intended *m = &scene[i];
+        m->source = source;
+        m->destination = (uint8_t)(i * 77);
+        m->k = (uint8_t)(1 + below(15));
+        m->n = 1 + below(2);
+        unsigned p = 1 + below(m->n);
+        do
+            m->spn[3 - p] = PICK(known);
+        while (m->spn[3 - p] == scene_spn);
+        m->spn[p] = scene_spn;
+        m->start[1] = below(40);
+        m->start[2] = m->start[1] + 24 + below(60);   /* no width is above 24 */
+        m->proprietary = below(2);
+        measure(m);
+        m->transport = m->bytes > 8;
+    }
+}
+
 /* All that a key's map says, its positions in any order. */
 static void teach(const struct intended *m)
 {
@@ -812,6 +937,8 @@ static void one_call(void)
         meaning();
     else if (what < 923)
         scaled();
+    else if (what < 948)
+        locate(any_key());
     else
         command(DECIDE);
 }
@@ -820,7 +947,10 @@ static void play_scene(uint64_t until)
 {
     laid = one_in(3);
     set_scene(laid ? 64 : 31, laid ? 14279 : 249);
-    if (laid || one_in(4)) {
+    int many = !laid && one_in(6);
+    if (many)
+        set_many();
+    if (laid || many || one_in(4)) {
         yendrolf_empty(&box);
         plain_empty(&plain);
     }
@@ -833,6 +963,9 @@ static void play_scene(uint64_t until)
     else
         for (unsigned i = 0; i < scene_keys; i++)
             teach(&scene[i]);
+    memcpy(&before, &box, sizeof box);
+    for (unsigned i = 0; many && i < 20; i++)
+        locate(any_key());
     unsigned length = laid ? 100 + below(200) : 200 + below(2000);
     for (unsigned i = 0; i < length && calls < until; i++) {
         one_call();
@@ -856,7 +989,7 @@ static void print_counts(void)
         if (kinds[i])
             printf("  %-9s %10" PRIu64 "\n", call_names[i], kinds[i]);
     printf("\nanswers\n");
-    for (unsigned n = 0; n <= 20; n++) {
+    for (unsigned n = 0; n <= LAST_ANSWER; n++) {
         uint64_t all = 0;
         for (unsigned i = 0; i < KINDS; i++)
             all += answers[i][n];
@@ -870,7 +1003,10 @@ static void print_counts(void)
     for (unsigned j = 0; j <= 8; j++)
         printf("  %u %10" PRIu64 " %10" PRIu64 "\n", j, judgements[0][j], judgements[1][j]);
     printf("\ndecisions: pass %" PRIu64 ", block %" PRIu64 "\n", pass_or_block[1], pass_or_block[0]);
-    printf("parameters that the dictionary has not %" PRIu64 "\n", unknown_told);
+    printf("answers to a Parameter Locate, by their messages:");
+    for (unsigned i = 0; i <= 16; i++)
+        printf(" %" PRIu64, located[i]);
+    printf("\nparameters that the dictionary has not %" PRIu64 "\n", unknown_told);
     printf("states of numbers read: valid %" PRIu64 ", reserved %" PRIu64 ", error %" PRIu64 ", not available %" PRIu64 "\n", states_read[0], states_read[1],
         states_read[2], states_read[3]);
     printf("\nscaled: kind, valid, reserved, error, not available\n");

@@ -545,6 +545,71 @@ int plain_key_from(const struct plain_box *box, unsigned *source, unsigned *dest
     return 1;
 }
 
+/* ---- Req 03: "Answer a Parameter Locate" */
+
+/* The next key of `own`, from (own, *destination, *k) on, that is usable and holds the SPN: 1, the key, and the message that says where, or 0. */
+static int next_located(const struct plain_box *box, unsigned own, unsigned *destination, unsigned *k, uint32_t spn, struct plain_message *message)
+{
+    unsigned source = own;
+    memset(message, 0, sizeof *message);
+    while (plain_key_from(box, &source, destination, k) && source == own) {
+        struct plain_found found = plain_find(box, source, *destination, *k, spn);
+        if (found.answer.number == 0) {
+            const struct plain_set *set = &box->sets[set_of(box, source, *destination, *k)];
+            for (size_t i = 0; i < set->count; i++)
+                if (set->messages[i].position == found.position)
+                    *message = set->messages[i];
+            return 1;
+        }
+        ++*k;   /* the three numbers need be no key that can be held */
+    }
+    return 0;
+}
+
+/* A message as a record of 13 bytes: "first-only as no, priority 6, destination as the key's". docs/WIRE.md has the places. */
+static void record_of(struct plain_message m, uint8_t record[13])
+{
+    uint32_t identifier = ((6 * 1024 + 176) * 256 + m.destination) * 256 + m.source;   /* 3 bits of priority, reserved 0, data page 0, PF of 8 bits */
+    uint32_t configured = 45056 + 256 * m.k;
+    for (unsigned i = 0; i < 4; i++)
+        record[i] = (uint8_t)bits(identifier, 8 * i, 8);
+    record[4] = 8;
+    for (unsigned i = 0; i < 3; i++)
+        record[5 + i] = (uint8_t)bits(configured, 8 * i, 8);
+    record[8] = (uint8_t)bits(m.spn, 0, 8);
+    record[9] = (uint8_t)bits(m.spn, 8, 8);
+    record[10] = (uint8_t)(bits(m.spn, 16, 3) * 32 + m.position);
+    record[11] = (uint8_t)(m.proprietary * 128 + m.transport * 64 + m.n);
+    record[12] = (uint8_t)(m.start + 1);
+}
+
+struct plain_answer plain_locate(const struct plain_box *box, unsigned own, uint32_t identifier, unsigned length, const uint8_t data[8], uint8_t *log, size_t size,
+    size_t start)
+{
+    if (identifier > 536870911)
+        return answer(1, 0);
+    struct fields f = fields_of(identifier);
+    if (pgn_of(f) != 44800)
+        return answer(2, 0);
+    if (length != 8)
+        return answer(3, 0);
+    if (data[7] != 0)
+        return answer(24, 0);
+    uint32_t spn = data[0] + 256 * data[1] + 65536 * bits(data[2], 5, 3);
+    uint8_t records[16 * 13];
+    unsigned count = 0, destination = 0, k = 0;
+    struct plain_message message;
+    if (f.ps == own || f.ps == 255)   /* "a request to another single address, gives no message" */
+        for (; next_located(box, own, &destination, &k, spn, &message); k++)
+            record_of(message, records + 13 * count++);
+    /* "13 where start plus 13 a message exceeds the log; none is then written" */
+    if (start > size || 13 * count > size - start)
+        return answer(13, 0);
+    for (unsigned i = 0; i < 13 * count; i++)
+        log[start + i] = records[i];
+    return answer(0, count);
+}
+
 /* ---- "Port pairs" */
 
 void plain_fresh(struct plain_box *box)

@@ -91,6 +91,10 @@ struct plain_found plain_find(const struct plain_box *box, unsigned source, unsi
 /* The parameter at a position of a key's map, usable or not: 11, then 18 where nothing stands there (so at each position of a key in conflict), else 0. */
 struct plain_parameter plain_parameter_at(const struct plain_box *box, unsigned source, unsigned destination, unsigned k, unsigned position);
 
+/* Req 03: answers a Parameter Locate as `own`, with records laid into `log`, which has `size` bytes, from byte `start` on. 1, 2, 3, 24, 13, or 0 with the count. */
+struct plain_answer plain_locate(const struct plain_box *box, unsigned own, uint32_t identifier, unsigned length, const uint8_t data[8], uint8_t *log, size_t size,
+    size_t start);
+
 /* n of a key's messages; 0 where the key is in conflict or not held. */
 unsigned plain_count(const struct plain_box *box, unsigned source, unsigned destination, unsigned k);
 

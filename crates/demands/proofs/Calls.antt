@@ -41,7 +41,7 @@ unfolding overTo
 kept-records log b s h k zero = k
 kept-records log b s h k (suc n) = kept-record (recordAt log n) (data-bytes log n b) (overTo step s log n) (overTo recorded h log n) (kept-records log b s h k n)
 
-bytes-append : (a b : List ℕ) → Bytes a → Bytes b → Bytes (a ++ b)
+pub bytes-append : (a b : List ℕ) → Bytes a → Bytes b → Bytes (a ++ b)
 bytes-append [] b p q = q
 bytes-append (x ∷ a) b p q = (p .0, bytes-append a b (p .1) q)
 

@@ -1,5 +1,5 @@
 -- THE THREE DEMANDS, over what the calls promise. Each call's promise is one equation for its answer and the memory lent to it with a total definition, on
--- every input: learnt, forgotten, emptyTable, feeding, judgedBy, packedBy, readBy, foundBy, standsBy, finished, commanded, decided. The laws below are
+-- every input: learnt, forgotten, emptyTable, feeding, judgedBy, packedBy, readBy, foundBy, standsBy, finished, locatedBy, commanded, decided. The laws below are
 -- about these definitions, so they hold of the calls. No call on the table is lent the filters and none on the filters the table.
 --
 -- Demand 1: the numbers of each call, what a refusal leaves, what answer 10 changes.
@@ -52,6 +52,8 @@ use Rattle.ask.proofs.Laws.{Unusable, pack-12, read-12, find-12, pack-done, don
 use Rattle.feeding.specs.declared.Tally.{Tally}
 use Rattle.listing.specs.Page.{pageOf, finished}
 use Rattle.splice.specs.Splice.{fits}
+use Rattle.locate.specs.Locate.{locatedBy}
+use Rattle.locate.proofs.Laws.{number-list, refusal-leaves}
 use Rattle.judge.specs.Judge.{paramsOf}
 use Rattle.words.specs.Runs.{only}
 use Rattle.pairs.specs.declared.Command.{Command}
@@ -129,6 +131,10 @@ pub finish-list : (t : List ℕ) (s : Tally) (out : List ℕ) → oneOf (finishe
 unfolding finished
 finish-list t s out = test (fits out 0 (pageOf t s)) (λ y. rw y) (λ n. rw n)
 
+-- answering a Parameter Locate: 0, 1, 2, 3, 24 and 13
+pub locate-list : (t : List ℕ) (own id len : ℕ) (d log : List ℕ) (start : ℕ) → oneOf (locatedBy widthOf t own id len d log start .answer .number) (0 ∷ 1 ∷ 2 ∷ 3 ∷ 24 ∷ 13 ∷ []) ≡ true
+locate-list = number-list widthOf
+
 -- the commands to the filters, and deciding
 module _ (w : List ℕ) (long : length w ≡ 408) (from to : ℕ) where
   pub add-list : (pgn : ℕ) → oneOf (commanded w from to (Add pgn) .answer .number) (0 ∷ 15 ∷ 17 ∷ 16 ∷ []) ≡ true
@@ -177,6 +183,9 @@ module _ (m : Map) where
 pub finish-leaves : (t : List ℕ) (s : Tally) (out : List ℕ) → (finished t s out .answer .number ≡ 0 → ⊥) → finished t s out .memory ≡ out
 unfolding finished
 finish-leaves t s out n = test (fits out 0 (pageOf t s)) (λ y. absurd (n (rw y))) (λ f. rw f)
+
+pub locate-leaves : (t : List ℕ) (own id len : ℕ) (d log : List ℕ) (start : ℕ) → (locatedBy widthOf t own id len d log start .answer .number ≡ 0 → ⊥) → locatedBy widthOf t own id len d log start .memory ≡ log
+locate-leaves = refusal-leaves widthOf
 
 -- a refused command leaves every word, and a command that is obeyed those of every other pair
 module _ (w : List ℕ) (long : length w ≡ 408) (from to : ℕ) (c : Command) where

@@ -12,6 +12,7 @@ ghost use Rattle.dictionary.specs.Dictionary.{widthOf};
 ghost use Rattle.ask.specs.Ask.{packedBy, reads, readBy, foundIn, foundBy, standingIn, standsBy};
 ghost use Rattle.open.specs.Open.{judgedBy};
 ghost use Rattle.meaning.specs.Meaning.{meaningOf, scaledOf};
+ghost use Rattle.locate.specs.Locate.{locatedBy};
 ghost use Rattle.feeding.specs.Feed.{started, fed, feeding};
 ghost use Rattle.listing.specs.Page.{finished};
 ghost use Rattle.pairs.specs.declared.Command.the-variants.{Add, Delete, Renew};
@@ -333,6 +334,23 @@ pub extern "C" fn yendrolf_table_next_key(
     ensures { λ r. ⌜ r ≡ heldOf (nextKey (now (t .entry)) (keyOf source destination k)) ⌝ }
 {
     key_in_c(lookup::next_key(t, source, destination, k))
+}
+
+// Answers a Parameter Locate: the records of our own address' maps that have the parameter, laid into `log` from byte `start` on.
+#[no_mangle]
+pub extern "C" fn yendrolf_table_locate(
+    t: &[u64; lookup::WORDS],
+    own: u8,
+    id: u32,
+    len: u8,
+    d: &[u8; 8],
+    log: &mut [u8],
+    start: usize,
+) -> Told
+    ensures { λ r. ⌜ outcome (saidTo r) (now (log .exit))
+        ≡ locatedBy widthOf (now (t .entry)) own id len (now (d .entry)) (now (log .entry)) start ⌝ }
+{
+    in_c(locate::locate(t, own, id, len, d, log, start))
 }
 
 // ---- what numbers mean

@@ -1,0 +1,10 @@
+pub mod Request
+pub mod Keys
+pub mod Finding
+pub mod Walked
+pub mod Laid
+pub mod Laws
+pub mod Heard
+pub mod Fed
+pub mod Examples
+pub mod Mentioned
