@@ -58,6 +58,8 @@ static uint32_t numbers[YENDROLF_MOST_NUMBERS];
 static uint8_t payload[YENDROLF_MOST_BYTES], states[YENDROLF_MOST_NUMBERS];
 static uint32_t asked_spns[FRAMES], asked_numbers[FRAMES];
 static uint8_t requests[FRAMES][8];       /* the data of Parameter Locates */
+static uint8_t saved_image[YENDROLF_IMAGE_BYTES], damaged_image[YENDROLF_IMAGE_BYTES];   /* of `box` */
+static size_t saved_size;
 
 /* What pack and read find, the same for each run; 1 fits every width. */
 static void fill(void)
@@ -124,6 +126,11 @@ static const struct test {
     { "renew", 1600000, BUILT(renew) },
     { "feed, a record", 1000000, BUILT(feed) },
     { "finish, 16 keys", 800, BUILT(finish) },
+    { "save, 10 usable keys of 16", 800, BUILT(save) },
+    { "load, 10 keys", 800, BUILT(load) },
+    { "load, damaged at the end", 800, BUILT(damaged) },
+    { "body of a key in an image of 10", 800, BUILT(body) },
+    { "row of an image of 10", 800, BUILT(row) },
 };
 
 static double seconds(void)
@@ -281,6 +288,11 @@ static void prepare(void)
     see_usable(&wide_box, FIRST_64, maps_64);
     see_usable(&wide_box, FIRST_1, maps_1);
     spare = box;
+    saved_size = yendrolf_image_size(&box);
+    if (yendrolf_save(&box, saved_image, sizeof saved_image).number != 0 || saved_image[1] != 2 * MAPS)
+        fail("not all usable maps are saved");
+    memcpy(damaged_image, saved_image, saved_size);
+    damaged_image[saved_size - 1] ^= 255;
     for (unsigned i = made; i < FRAMES; i++)
         frames[i] = frames[any() % made];
     for (unsigned i = 0; i < FRAMES; i++)

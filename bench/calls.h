@@ -187,5 +187,62 @@ MEASURED uint64_t TEST(finish)(uint64_t n)
     return sum;
 }
 
+/* The image of a table of 16 keys, 10 of them usable. */
+MEASURED uint64_t TEST(save)(uint64_t n)
+{
+    static uint8_t image[YENDROLF_IMAGE_BYTES];
+    uint64_t sum = 0;
+    memset(image, 0, sizeof image);
+    for (uint64_t i = 0; i < n; i++) {
+        sum += CALL(table_save)(box.table, image, sizeof image).number + image[i % sizeof image];
+        image[i % sizeof image] = 0;
+    }
+    return sum;
+}
+
+/* Each row is made free again by its state word, so that the next load finds an empty table. */
+MEASURED uint64_t TEST(load)(uint64_t n)
+{
+    uint64_t sum = 0;
+    CALL(table_empty)(other_box.table);
+    for (uint64_t i = 0; i < n; i++) {
+        for (unsigned row = 0; row < KEYS; row++)
+            other_box.table[row * ROW] = 0;
+        sum += CALL(table_load)(other_box.table, saved_image, saved_size).number + other_box.table[i % YENDROLF_TABLE_WORDS];
+    }
+    return sum;
+}
+
+/* Each of the table's keys in turn; 6 of 16 are not in the image. */
+MEASURED uint64_t TEST(body)(uint64_t n)
+{
+    uint64_t sum = 0;
+    for (uint64_t i = 0; i < n; i++) {
+        yendrolf_row got = CALL(image_body)(saved_image, saved_size, keys[i % KEYS].source, 39, keys[i % KEYS].k);
+        sum += got.told.number + got.offset + got.length;
+    }
+    return sum;
+}
+
+/* One in eight is past the last. */
+MEASURED uint64_t TEST(row)(uint64_t n)
+{
+    uint64_t sum = 0;
+    for (uint64_t i = 0; i < n; i++) {
+        yendrolf_row got = CALL(image_row)(saved_image, saved_size, i % 8 ? i % 8 : 16);
+        sum += got.told.number + got.source + got.k + got.offset + got.length;
+    }
+    return sum;
+}
+
+/* The same image with its last byte turned: the reader goes nearly to its end. */
+MEASURED uint64_t TEST(damaged)(uint64_t n)
+{
+    uint64_t sum = 0;
+    for (uint64_t i = 0; i < n; i++)
+        sum += CALL(table_load)(other_box.table, damaged_image, saved_size).number;
+    return sum;
+}
+
 #undef CALL
 #undef TEST

@@ -28,6 +28,11 @@ yendrolf_key FAST(table_next_key)(const uint64_t *table, uint8_t source, uint8_t
 yendrolf_log FAST(start_log)(void);
 yendrolf_log FAST(table_feed)(uint64_t *table, yendrolf_log log, const uint8_t *chunk, size_t size);
 yendrolf_told FAST(table_finish)(const uint64_t *table, yendrolf_log log, uint8_t *text, size_t room);
+size_t FAST(table_image_size)(const uint64_t *table);
+yendrolf_told FAST(table_save)(const uint64_t *table, uint8_t *image, size_t size);
+yendrolf_told FAST(table_load)(uint64_t *table, const uint8_t *image, size_t size);
+yendrolf_row FAST(image_body)(const uint8_t *image, size_t size, uint8_t source, uint8_t destination, uint8_t k);
+yendrolf_row FAST(image_row)(const uint8_t *image, size_t size, size_t row);
 void FAST(filters_fresh)(uint32_t *filters);
 yendrolf_told FAST(filters_add)(uint32_t *filters, uint8_t from, uint8_t to, uint32_t pgn);
 yendrolf_told FAST(filters_delete)(uint32_t *filters, uint8_t from, uint8_t to, uint32_t pgn);

@@ -1,6 +1,6 @@
 /* A header's box in C, from its start to a day's work: it learns document 01's case A from two frames, judges it, packs and reads a payload, tells a pressure from
-   'not available', finds a parameter, answers a tester's Parameter Locate, meets a contradiction and forgets, lists a log, and keeps an engine's frames off one
-   port. examples/run builds it, runs it, and compares what it prints with examples/hitch.txt. */
+   'not available', finds a parameter, answers a tester's Parameter Locate, saves what it learned for the box that takes its place, meets a contradiction and forgets, lists a
+   log, and keeps an engine's frames off one port. examples/run builds it, runs it, and compares what it prints with examples/hitch.txt. */
 #include <inttypes.h>
 #include <stdio.h>
 
@@ -109,6 +109,37 @@ int main(void)
     say("it judges: position 1 is missing", yendrolf_judge(&tester, 38, 39, 1));
     say("locate 1519, asked of 39", yendrolf_locate(&box, 38, 0x18af27f9, 8, asked, answers, sizeof answers, 0));
     say("locate into 12 bytes", yendrolf_locate(&box, 38, 0x18af26f9, 8, asked, answers, 12, 0));
+
+    /* What the box learned, as an image (docs/IMAGE.md): bytes to be kept across power cycles, in a file or in flash memory. Another box that has them starts where this one
+       stopped. Before it loads them it looks at every byte: a file that was cut short, or with one bit turned, is damaged and loads nothing. */
+    static yendrolf_box swapped;
+    uint8_t image[YENDROLF_IMAGE_BYTES];
+    size_t size = yendrolf_image_size(&box);
+    say("save into 18 bytes", yendrolf_save(&box, image, 18));
+    say("save", yendrolf_save(&box, image, sizeof image));
+    printf("%-34s", "the image");
+    for (size_t i = 0; i < size; i++)
+        printf(" %02X", image[i]);
+    printf("\n");
+    yendrolf_start(&swapped);
+    say("another box loads a part of it", yendrolf_load(&swapped, image, size - 1));
+    say("it loads all of it", yendrolf_load(&swapped, image, size));
+    say("it judges", yendrolf_judge(&swapped, 38, 39, 1));
+    numbers[0] = 40, numbers[1] = 1;
+    say("it packs 40 and 1", yendrolf_pack(&swapped, 38, 39, 1, numbers, 2, payload, sizeof payload));
+    printf("%-34s %02X %02X ..\n", "the payload", payload[0], payload[1]);
+    say("it learns position 2 again", yendrolf_learn(&swapped, 0x18b02726, 8, second));
+    say("it loads once more", yendrolf_load(&swapped, image, size));
+    yendrolf_row body = yendrolf_image_body(image, size, 38, 39, 1);
+    say("ask the image for 38 39 1", body.told);
+    printf("%-34s %zu bytes from byte %zu on\n", "its body", body.length, body.offset);
+    say("ask the image for 38 39 2", yendrolf_image_body(image, size, 38, 39, 2).told);
+    yendrolf_row row;
+    for (size_t i = 0; (row = yendrolf_image_row(image, size, i)).told.number == YENDROLF_DONE; i++)   /* a walk ends with 22, and one over a damaged image with 21 */
+        printf("row %-30zu %u %u %u, %zu bytes from byte %zu on\n", i, row.source, row.destination, row.k, row.length, row.offset);
+    say("behind the last row", row.told);
+    image[12] ^= 0x20;   /* one bit of the image: first-only yes, which no image has */
+    say("load it with a bit turned", yendrolf_load(&swapped, image, size));
 
     say("learn another start for position 2", yendrolf_learn(&box, 0x18b02726, 8, other));
     say("judge: in conflict", yendrolf_judge(&box, 38, 39, 1));

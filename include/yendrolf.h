@@ -1,5 +1,6 @@
 /* The box for C: learning Configuration Identification Messages, judging maps, packing and reading payloads, what a number means, the answer to a Parameter Locate,
- * the listing of a log, and the filter of a bridge of four ports. examples/hitch.c has the calls at work; examples/socketcan.c is a loop on Linux' CAN sockets.
+ * the listing of a log, an image of what the box learned, and the filter of a bridge of four ports. examples/hitch.c has the calls at work; examples/socketcan.c is a
+ * loop on Linux' CAN sockets.
  *
  * Link with the archive that `rt staticlib firmware` writes (target/staticlib/libfirmware.a). Every function of it is proved against its contract
  * (crates/firmware); this header is not: tests/header and tests/compare/run compare it with the archive.
@@ -7,8 +8,9 @@
  * What it needs:
  * - x86-64 Linux, no other machine, and a compiler of C99 or C++11 or later.
  * - memcpy and memset, which the archive's code calls and which C's library has. It calls nobody else, allocates nothing and keeps nothing between calls.
- * - Stack below the caller's own, in bytes: finish 3,200; locate 2,700; judge, pack, read and find 2,500; parameter_at, meaning and scaled 1,700; every other call 400. It is a bound from the
- *   archive's code (tests/stack), with 120 for the header's own function where the compiler does not inline it; what memcpy and memset take is not in it.
+ * - Stack below the caller's own, in bytes: load, image_body and image_row 14,200; finish 3,200; locate, save and image_size 2,700; judge, pack, read and find 2,500; parameter_at,
+ *   meaning and scaled 1,700; every other call 400. It is a bound from the archive's code (tests/stack), with 120 for the header's own function where the compiler does not inline it; what
+ *   memcpy and memset take is not in it.
  *
  * How to call it:
  * - Lend one yendrolf_box, which may stand anywhere that is aligned to 8. C aligns a variable by itself; a place inside other bytes is yours to align.
@@ -16,7 +18,7 @@
  * - No pointer may be null, and what a call may write must not overlap with anything else that is lent to the same call. A `data` has 8 bytes.
  * - One call at a time on one box. Two boxes do not know of each other.
  * - A number is what its type can hold: C makes 1 of a port 257 before the library sees it. (-Wconversion tells.)
- * - The words of a box are the machine's own, so a box is no file format.
+ * - The words of a box are the machine's own, so a box is no file format. An image is (docs/IMAGE.md): keep that across power cycles, and load it into the next box.
  * - An identifier is the 29 bits and nothing else. SocketCAN has flags above them: give `can_id & CAN_EFF_MASK`, and give only frames with CAN_EFF_FLAG and
  *   without CAN_RTR_FLAG and CAN_ERR_FLAG. A frame of 11 bits would be taken for another's of 29, and a remote frame has no data.
  * - Look at an answer's number before its detail. Of yendrolf_decide too: pass is number 0 with detail 1; a refusal's detail is 0, and no decision.
@@ -69,6 +71,9 @@ enum yendrolf_answer {
     YENDROLF_NOT_LISTED = 18,           /* SPN not in the map, nothing at the position, or PGN not in the list */
     YENDROLF_BAD_MODE = 19,             /* filter mode not 0 or 1 */
     YENDROLF_LIST_NOT_EMPTY = 20,       /* never given: no command changes a mode and keeps the list */
+    YENDROLF_DAMAGED = 21,              /* these bytes are no image */
+    YENDROLF_NOT_IN_IMAGE = 22,         /* key or row not in the image */
+    YENDROLF_NOT_EMPTY = 23,            /* the table to load into holds a key */
     YENDROLF_BAD_COMMAND = 24           /* a command byte that is not 0 */
 };
 
@@ -127,7 +132,8 @@ enum yendrolf_size {
     YENDROLF_RECORD_BYTES = 13,         /* bytes of a log's record */
     YENDROLF_LISTING_BYTES = 512,       /* enough for any listing */
     YENDROLF_LOCATE_BYTES = 208,        /* enough for any answer to a Parameter Locate: a record for each of 16 keys */
-    YENDROLF_STACK_BYTES = 3200         /* stack of any call at most */
+    YENDROLF_IMAGE_BYTES = 2594,        /* enough for any image: 16 keys with 31 parameters each, which is as much as messages can teach */
+    YENDROLF_STACK_BYTES = 14200        /* stack of any call at most */
 };
 
 /* All that a box holds. */
@@ -177,6 +183,16 @@ typedef struct {
     uint32_t kind;
     uint32_t state;
 } yendrolf_value;
+
+/* A row of an image's contents: where the body lies, `offset` from the image's first byte on and `length` bytes, and the key. All are 0 on a refusal. */
+typedef struct {
+    yendrolf_told told;
+    size_t offset;
+    size_t length;
+    uint32_t source;
+    uint32_t destination;
+    uint32_t k;
+} yendrolf_row;
 
 /* A held key, or that there is none: `held` is 1 or 0, and the others are 0 with it. */
 typedef struct {
@@ -230,6 +246,13 @@ YENDROLF_CHECK_STRUCT(value, 16);
 YENDROLF_CHECK_FIELD(value, value, 0, 8);
 YENDROLF_CHECK_FIELD(value, kind, 8, 4);
 YENDROLF_CHECK_FIELD(value, state, 12, 4);
+YENDROLF_CHECK_STRUCT(row, 48);
+YENDROLF_CHECK_FIELD(row, told, 0, 16);
+YENDROLF_CHECK_FIELD(row, offset, 16, 8);
+YENDROLF_CHECK_FIELD(row, length, 24, 8);
+YENDROLF_CHECK_FIELD(row, source, 32, 4);
+YENDROLF_CHECK_FIELD(row, destination, 36, 4);
+YENDROLF_CHECK_FIELD(row, k, 40, 4);
 YENDROLF_CHECK_STRUCT(key, 4);
 YENDROLF_CHECK_FIELD(key, held, 0, 1);
 YENDROLF_CHECK_FIELD(key, source, 1, 1);
@@ -264,6 +287,9 @@ yendrolf_key yendrolf_table_first_key(const uint64_t *table);
 yendrolf_key yendrolf_table_next_key(const uint64_t *table, uint8_t source, uint8_t destination, uint8_t k);
 yendrolf_log yendrolf_table_feed(uint64_t *table, yendrolf_log log, const uint8_t *chunk, size_t size);
 yendrolf_told yendrolf_table_finish(const uint64_t *table, yendrolf_log log, uint8_t *text, size_t room);
+size_t yendrolf_table_image_size(const uint64_t *table);
+yendrolf_told yendrolf_table_save(const uint64_t *table, uint8_t *image, size_t size);
+yendrolf_told yendrolf_table_load(uint64_t *table, const uint8_t *image, size_t size);
 void yendrolf_filters_fresh(uint32_t *filters);
 yendrolf_told yendrolf_filters_add(uint32_t *filters, uint8_t from, uint8_t to, uint32_t pgn);
 yendrolf_told yendrolf_filters_delete(uint32_t *filters, uint8_t from, uint8_t to, uint32_t pgn);
@@ -386,6 +412,36 @@ static inline yendrolf_told yendrolf_finish(const yendrolf_box *box, yendrolf_lo
 {
     return yendrolf_table_finish(box->table, log, text, room);
 }
+
+/* ---- the image of a table (docs/IMAGE.md): what the box learned as bytes that any box can load. It has the keys whose maps are usable, and nothing of the others and of the
+   filters. One table has one image, whatever the order that it learned in; any other bytes are damaged, and each call that is lent an image checks all of it. */
+
+/* How many bytes the image has: 2,594 at the most in a box that is changed by these calls alone. */
+static inline size_t yendrolf_image_size(const yendrolf_box *box)
+{
+    return yendrolf_table_image_size(box->table);
+}
+
+/* Writes the image over the start of `image`, which has `size` bytes; bytes past it keep what they held. 13, and nothing is written, where `size` is below
+   yendrolf_image_size; or 0. */
+static inline yendrolf_told yendrolf_save(const yendrolf_box *box, uint8_t *image, size_t size)
+{
+    return yendrolf_table_save(box->table, image, size);
+}
+
+/* Loads an image of exactly `size` bytes into a box that holds no key, as if it heard the messages that the image stands for; the filters stay. 21; 23 where a key is held, be
+   it in conflict; or 0. */
+static inline yendrolf_told yendrolf_load(yendrolf_box *box, const uint8_t *image, size_t size)
+{
+    return yendrolf_table_load(box->table, image, size);
+}
+
+/* Where the body of a key lies in an image: 21, 22, or 0 with offset and length. A body is the data bytes 4 to 8 of the messages of positions 1 to n, so 5 bytes a parameter. No
+   box is needed. */
+yendrolf_row yendrolf_image_body(const uint8_t *image, size_t size, uint8_t source, uint8_t destination, uint8_t k);
+
+/* A row of the image's contents by its number, from 0 on, keys rising: 21; 22 where there is no such row, which ends a walk; or 0 with the key, offset and length. */
+yendrolf_row yendrolf_image_row(const uint8_t *image, size_t size, size_t row);
 
 /* ---- the filters. A pair is directed, from one port to another, ports being 1 to 4. */
 

@@ -1,4 +1,5 @@
-"""What the programs `vectors`, `runs`, `meanings` and `locates` are run on, and what the model says they must write."""
+"""What the programs `vectors`, `runs`, `meanings`, `locates` and `images` are run on, and what the model says they must write."""
+import images
 import keys
 import lists
 import locates
@@ -15,6 +16,7 @@ def files():
     yield from written("runs", [*pairs.cases(Dice(31)), *keys.cases(Dice(1939)), *logs.cases(Dice(13))])
     yield from written("meanings", [*meanings.cases(Dice(71))])
     yield from written("locates", [*locates.cases(Dice(44800))])
+    yield from written("images", [*images.cases(Dice(21))])
 
 
 def written(program, cases):

@@ -1,4 +1,4 @@
-"""Checks of what a person starts: ./list, tools/mklog and tools/candump2log, with right and wrong input. tests/all runs them.
+"""Checks of what a person starts: ./list, ./save, tools/mklog and tools/candump2log, with right and wrong input. tests/all runs them.
 
 What they must write was worked out by hand from docs/WIRE.md and 01's record, not taken from the tools."""
 import os
@@ -9,12 +9,17 @@ import subprocess
 import tempfile
 import time
 
+import images
 import model
 
 ROOT = pathlib.Path(__file__).resolve().parent.parent
 TWO = (ROOT / "samples" / "two-records.log").read_bytes()
 LISTED = (ROOT / "samples" / "two-records.out").read_text()
 TRACE = (ROOT / "samples" / "trace.txt").read_bytes()
+SHELF = (ROOT / "samples" / "shelf.log").read_bytes()
+IMAGE = (ROOT / "samples" / "shelf.image").read_bytes()
+IN_IMAGE = (ROOT / "samples" / "shelf-image.out").read_text()
+NO_KEYS = bytes([1, 0])   # the image of a table without a usable key
 NOTHING = "SRC DST MSG N JUDGED AT\nRECORDS 0 REFUSED 0 OTHER 0 LEFT 0\n"
 WAIT = 60   # seconds, for what should end at once
 
@@ -24,6 +29,13 @@ def run(command, given="", out=subprocess.PIPE, **more):
     given = given if isinstance(given, bytes) else given.encode()
     done = subprocess.run(["sh", "-c", command], input=given, stdout=out, stderr=subprocess.PIPE, cwd=ROOT, timeout=WAIT, **more)
     return done.returncode, done.stdout or b"", done.stderr.decode()
+
+
+def model_image(log):
+    """What the model saves of a log."""
+    box = model.Box()
+    model.listing(log, box)
+    return images.image_of(box)
 
 
 def differ(found, wanted, what):
@@ -53,6 +65,13 @@ def lists(command, listing, said="", status=0, given=TWO):
     name, check = row(command, given, status, listing.encode(), said and "list: " + said)
     return command, check
 
+
+def saves(command, image, said="", status=0, given=SHELF):
+    name, check = row(command, given, status, image, said and "save: " + said)
+    return command, check
+
+
+DAMAGED = "the image is damaged, and nothing is listed"
 
 TABLE = [
     # a Configuration Identification Message: identifier, length, PGN 45056 + 256 msg, SPN with the position, flags with n, start + 1
@@ -121,6 +140,39 @@ TABLE = [
     lists("TMPDIR=/no/such/folder ./list", "", "no temporary file could be made: set TMPDIR to ", 1),
     lists("./list samples/trace.txt", model.listing(TRACE), "this log looks like text, and a log is records of 13 bytes: tools/candump2log makes them "),
     lists("./list < samples/trace.txt", model.listing(TRACE), "this log looks like text, "),
+
+    lists("./list --image", IN_IMAGE, given=IMAGE),
+    lists("./list --image -", IN_IMAGE, given=IMAGE),
+    lists("./list --image samples/shelf.image", IN_IMAGE),
+    lists("./save samples/shelf.log | ./list --image", IN_IMAGE),
+    lists("./save < /dev/null | ./list --image", NOTHING),
+    lists("head -c 30 samples/shelf.image | ./list --image", "", DAMAGED, 1),
+    lists("(cat samples/shelf.image; sleep 0.3; echo) | ./list --image", "", DAMAGED, 1),
+    lists("(cat samples/shelf.image; sleep 0.3; head -c 100000 /dev/zero) | ./list --image", "", DAMAGED, 1),
+    lists("./list --image < /dev/null", "", DAMAGED, 1),
+    lists("./list --image samples/shelf.log", "", DAMAGED, 1),
+    lists("./list --image samples/trace.txt", "", DAMAGED, 1),
+    lists("./list --image <&-", "", "standard input is closed: name a file, as in ./list --image ", 1),
+    lists("./list --image ''", "", "the name of the image is empty: name an image", 1),
+    lists("./list --image no-such-file", "", "there is no file no-such-file: name an image", 1),
+    lists("./list --image samples", "", "samples is a folder: name an image file in it", 1),
+    lists("./list --image a b", "", "too many words: ./list --image IMAGE ", 1),
+    lists("./list --image < samples", "", "reading stopped, and nothing is listed: Is a directory", 1),
+    lists("./list --image samples/shelf.image > /dev/full", "", "the listing could not be written: No space left on device", 1),
+
+    saves("./save", IMAGE),
+    saves("./save -", IMAGE),
+    saves("./save samples/shelf.log", IMAGE),
+    saves("./save < /dev/null", NO_KEYS),
+    saves("./save samples/trace.txt", NO_KEYS, "this log looks like text, and a log is records of 13 bytes: tools/candump2log makes them "),
+    saves("./save <&-", b"", "standard input is closed: name a file", 1),
+    saves("./save ''", b"", "the name of the log is empty: name a log", 1),
+    saves("./save no-such-file", b"", "there is no file no-such-file: name a log", 1),
+    saves("./save samples", b"", "samples is a folder: name a log file in it", 1),
+    saves("./save a b", b"", "too many words: ", 1),
+    saves("./save < samples", b"", "reading stopped, and nothing is saved: Is a directory", 1),
+    saves("./save > /dev/full", b"", "the image could not be written: No space left on device", 1),
+    saves("./save >&-", b"", "the image could not be written: Bad file descriptor", 1),
 ]
 
 
@@ -144,19 +196,19 @@ def help_of(command):
     return command, check
 
 
-def not_blocking():
-    """The log comes in pieces through a pipe that is non-blocking for its reader."""
+def not_blocking(command, given, wanted):
+    """What is read comes in pieces through a pipe that is non-blocking for its reader."""
     reader, writer = os.pipe()
     os.set_blocking(reader, False)
-    child = subprocess.Popen(["./list"], stdin=reader, stdout=subprocess.PIPE, stderr=subprocess.PIPE, cwd=ROOT)
+    child = subprocess.Popen(command.split(), stdin=reader, stdout=subprocess.PIPE, stderr=subprocess.PIPE, cwd=ROOT)
     os.close(reader)
-    for at in range(0, len(TWO), 10):
+    for at in range(0, len(given), 10):
         time.sleep(0.3)
-        os.write(writer, TWO[at:at + 10])
+        os.write(writer, given[at:at + 10])
     time.sleep(0.3)
     os.close(writer)
     out, err = child.communicate(timeout=WAIT)
-    return differ((child.returncode, out.decode(), err), (0, LISTED, b""), "status and what was written")
+    return differ((child.returncode, out, err), (0, wanted, b""), "status and what was written")
 
 
 def of_process(pid, file):
@@ -181,11 +233,11 @@ def is_running(pid):
     return of_process(pid, "stat").rpartition(") ")[2][:1] not in ("", "Z")
 
 
-def stopped(number, which):
-    """The script or the program gets a signal while the log is waited for."""
+def stopped(number, which, command="./list"):
+    """The script or the program gets a signal while the input is waited for."""
     reader, writer = os.pipe()
     # a shell starts what runs in its background with SIGINT ignored, and a script cannot take that back
-    child = subprocess.Popen(["./list"], stdin=reader, stdout=subprocess.PIPE, stderr=subprocess.PIPE, cwd=ROOT, preexec_fn=lambda: signal.signal(signal.SIGINT, signal.SIG_DFL))
+    child = subprocess.Popen(command.split(), stdin=reader, stdout=subprocess.PIPE, stderr=subprocess.PIPE, cwd=ROOT, preexec_fn=lambda: signal.signal(signal.SIGINT, signal.SIG_DFL))
     os.close(reader)
     program = program_of(child)
     os.kill(child.pid if which == "script" else program, number)
@@ -193,7 +245,7 @@ def stopped(number, which):
     os.close(writer)
     if which == "script":
         return differ((child.returncode, out, err, is_running(program)), (-number, b"", b"", False), "status, what was written, and whether the program runs on")
-    said = b"list: the program was stopped by signal %d before it was done\n" % number
+    said = b"%s: the program was stopped by signal %d before it was done\n" % (command.split()[0][2:].encode(), number)
     return differ((child.returncode, out), (1, b""), "status and standard output") + ("" if err.endswith(said) else "standard error: %r\n" % err)
 
 
@@ -211,38 +263,50 @@ exit 1
 """
 
 
-def on_a_fresh_copy(rt, target, status, wrote, said):
-    """./list in a copy that has nothing built, with a stand-in for rt; standard error must be these lines, {} being the copy."""
+def on_a_fresh_copy(rt, target, status, wrote, said, script="list"):
+    """A script in a copy that has nothing built, with a stand-in for rt; standard error must be these lines, {} being the copy."""
     with tempfile.TemporaryDirectory() as folder:
         copy, kit = pathlib.Path(folder, "copy").resolve(), pathlib.Path(folder, "kit")
         (copy / "crates").mkdir(parents=True)
         (kit / "bin").mkdir(parents=True)
-        shutil.copy(ROOT / "list", copy)
-        (copy / "crates.txt").write_text("answers:\nother: answers\nlist: answers io   # a program\n")
+        (copy / "tools").mkdir()
+        shutil.copy(ROOT / script, copy)
+        shutil.copy(ROOT / "tools" / "program.sh", copy / "tools")
+        (copy / "crates.txt").write_text("answers:\nother: answers\nlist: answers io   # a program\nkeep: answers io\n")
         (kit / "bin" / "rt").write_text(rt)
         (kit / "bin" / "rt").chmod(0o755)
         (kit / "program").write_text("#!/bin/sh\necho listed\necho done >&3\n")
         (kit / "program").chmod(0o755)
         if target == "a file":
             (copy / "target").write_text("")
-        code, out, err = run("'%s/list'" % copy, TWO, env={**os.environ, "RATTLE_HOME": str(kit)})
-        again = run("'%s/list'" % copy, TWO, env={**os.environ, "RATTLE_HOME": str(kit)})[1:] if status == 0 else (wrote, "")
+        code, out, err = run("'%s/%s'" % (copy, script), TWO, env={**os.environ, "RATTLE_HOME": str(kit)})
+        again = run("'%s/%s'" % (copy, script), TWO, env={**os.environ, "RATTLE_HOME": str(kit)})[1:] if status == 0 else (wrote, "")
     return differ((code, out), (status, wrote), "status and standard output") + differ(err, said.replace("{}", str(copy)), "standard error") + differ(again, (wrote, ""), "once more")
 
 
 CHECKS = TABLE + [
     help_of("./list --help"),
+    help_of("./save --help"),
     help_of("tools/mklog --help"),
     help_of("tools/candump2log --help"),
     closed_pipe("./list samples/two-records.log", (1, "list: the listing could not be written: its reader is gone\n")),
+    closed_pipe("./list --image samples/shelf.image", (1, "list: the listing could not be written: its reader is gone\n")),
+    closed_pipe("./save samples/shelf.log", (1, "save: the image could not be written: its reader is gone\n")),
     closed_pipe("tools/mklog samples/two-records.txt", (-signal.SIGPIPE, "")),
     closed_pipe("tools/candump2log samples/trace.txt", (-signal.SIGPIPE, "")),
-    ("./list from non-blocking standard input", not_blocking),
+    ("./list from non-blocking standard input", lambda: not_blocking("./list", TWO, LISTED.encode())),
+    ("./list --image from non-blocking standard input", lambda: not_blocking("./list --image", IMAGE, IN_IMAGE.encode())),
+    ("./save from non-blocking standard input", lambda: not_blocking("./save", TWO, model_image(TWO))),
     ("./list, and SIGTERM to the script", lambda: stopped(signal.SIGTERM, "script")),
     ("./list, and SIGINT to the script", lambda: stopped(signal.SIGINT, "script")),
     ("./list, and SIGKILL to the program", lambda: stopped(signal.SIGKILL, "program")),
+    ("./list --image, and SIGTERM to the script", lambda: stopped(signal.SIGTERM, "script", "./list --image")),
+    ("./save, and SIGINT to the script", lambda: stopped(signal.SIGINT, "script", "./save")),
+    ("./save, and SIGKILL to the program", lambda: stopped(signal.SIGKILL, "program", "./save")),
     ("./list on a fresh copy, a stand-in for rt proves it", lambda: on_a_fresh_copy(PROVES, "", 0, b"listed\n",
         "list: proving and building the program first, 2 crates; that takes some minutes\nlist: answers is proved, 1 left\nlist: list is proved, 0 left\n")),
+    ("./save on a fresh copy, a stand-in for rt proves it", lambda: on_a_fresh_copy(PROVES.replace("list", "keep"), "", 0, b"listed\n",
+        "save: proving and building the program first, 2 crates; that takes some minutes\nsave: answers is proved, 1 left\nsave: keep is proved, 0 left\n", "save")),
     ("./list on a fresh copy, a stand-in for rt refuses it", lambda: on_a_fresh_copy(REFUSES, "", 1, b"",
         "list: proving and building the program first, 2 crates; that takes some minutes\nrt: answers NOT PROVED (exit 1, 1 s)\n"
         "list: the program could not be built: rt check list, in {}, says why\n")),

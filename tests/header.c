@@ -11,7 +11,8 @@ static uint32_t answer_or_judgement(yendrolf_told told)
     case YENDROLF_BAD_IDENTIFIER: case YENDROLF_OTHER_PGN: case YENDROLF_BAD_LENGTH: case YENDROLF_BAD_SOURCE: case YENDROLF_NOT_CONFIGURABLE:
     case YENDROLF_BAD_FLAG: case YENDROLF_BAD_POSITION: case YENDROLF_BAD_START: case YENDROLF_TABLE_FULL: case YENDROLF_CONTRADICTED:
     case YENDROLF_NOT_HELD: case YENDROLF_BAD_BUFFER: case YENDROLF_TOO_WIDE: case YENDROLF_BAD_PORTS: case YENDROLF_LIST_FULL: case YENDROLF_BAD_PGN:
-    case YENDROLF_NOT_LISTED: case YENDROLF_BAD_MODE: case YENDROLF_LIST_NOT_EMPTY: case YENDROLF_BAD_COMMAND: return told.number;
+    case YENDROLF_NOT_LISTED: case YENDROLF_BAD_MODE: case YENDROLF_LIST_NOT_EMPTY: case YENDROLF_DAMAGED: case YENDROLF_NOT_IN_IMAGE: case YENDROLF_NOT_EMPTY:
+    case YENDROLF_BAD_COMMAND: return told.number;
     case YENDROLF_NOT_USABLE: break;
     default: return 0;
     }
@@ -49,6 +50,31 @@ static uint32_t bits_of(yendrolf_meant meant)
     }
 }
 
+/* Saves the box, loads another from that, and walks what was saved: how many rows it has, or 99. */
+static uint32_t saved_rows(void)
+{
+    static yendrolf_box swapped;
+    static uint8_t image[YENDROLF_IMAGE_BYTES];
+    size_t size = yendrolf_image_size(&box), row = 0;
+    yendrolf_row there;
+    yendrolf_start(&swapped);
+    if (size > sizeof image || answer_or_judgement(yendrolf_save(&box, image, size)) != 0)
+        return 99;
+    if (yendrolf_load(&swapped, image, size - 1).number != YENDROLF_DAMAGED || yendrolf_load(&swapped, image, size).number != YENDROLF_DONE)
+        return 99;
+    while ((there = yendrolf_image_row(image, size, row)).told.number == YENDROLF_DONE) {
+        yendrolf_row body = yendrolf_image_body(image, size, (uint8_t)there.source, (uint8_t)there.destination, (uint8_t)there.k);   /* a row's numbers are of 32 bits */
+        if (body.told.number != YENDROLF_DONE || body.offset != there.offset || body.length != there.length || body.length % 5 != 0)
+            return 99;
+        row++;
+    }
+    if (there.told.number != YENDROLF_NOT_IN_IMAGE || yendrolf_image_body(image, size, 255, 255, 255).told.number != YENDROLF_NOT_IN_IMAGE)
+        return 99;
+    if (row != 0 && yendrolf_load(&swapped, image, size).number != YENDROLF_NOT_EMPTY)
+        return 99;
+    return (uint32_t)row;
+}
+
 int main(void)
 {
     static const uint8_t data[YENDROLF_FRAME_BYTES] = { 0x00, 0xb1, 0x00, 0xed, 0x05, 0x01, 0x81, 1 };
@@ -64,6 +90,8 @@ int main(void)
     yendrolf_empty(&box);
     yendrolf_fresh(&box);
     sum += answer_or_judgement(yendrolf_learn(&box, 0x18b02726, YENDROLF_FRAME_BYTES, data));
+    if (saved_rows() != 1)
+        return 1;
     yendrolf_told answered = yendrolf_locate(&box, 38, 0x18af26f9, YENDROLF_FRAME_BYTES, asked, located, sizeof located, 0);
     if (answered.number != YENDROLF_DONE || answered.detail != 1 || located[0] != 38 || located[12] != 1)
         return 1;

@@ -41,10 +41,10 @@ static yendrolf_box before;           /* the library's before the call */
 
 static uint64_t seed, calls, checks;
 
-enum call { LEARN, FORGET, COUNT, JUDGE, PACK, READ, FIND, PARAMETER, LOCATE, MEANING, SCALED, KEYS, ADD, DELETE, RENEW, DECIDE, LIST, KINDS };
+enum call { LEARN, FORGET, COUNT, JUDGE, PACK, READ, FIND, PARAMETER, LOCATE, MEANING, SCALED, KEYS, ADD, DELETE, RENEW, DECIDE, LIST, SAVE, LOAD, BODY, ROW, KINDS };
 static const char *const call_names[KINDS] = { "learn", "forget", "count", "judge", "pack", "read", "find", "parameter", "locate", "meaning", "scaled", "next key", "add",
-    "delete", "renew", "decide", "listing" };
-#define LAST_ANSWER 24                /* 21 to 23 are not given yet */
+    "delete", "renew", "decide", "listing", "save", "load", "body", "row" };
+#define LAST_ANSWER 24
 static uint64_t answers[KINDS][LAST_ANSWER + 1], kinds[KINDS];
 static uint64_t judgements[2][9];     /* of judging, and of answer 12 */
 static uint64_t pass_or_block[2], longest, most_numbers;
@@ -53,6 +53,9 @@ static uint64_t states_read[4];       /* of numbers that were read */
 static uint64_t scaled_told[6][4];    /* of scaling, by kind and state */
 static uint64_t below_zero;           /* values */
 static uint64_t located[17];          /* answers to a Parameter Locate, by their messages */
+static uint64_t saved[17];            /* images, by their rows */
+static uint64_t turned_bits, cuts, longer_images, reworked, still_images;   /* images that were damaged, and how many were images all the same */
+static uint64_t swaps, longest_image;
 
 static char told_call[512];           /* the call under way, for a report */
 
@@ -555,13 +558,15 @@ static struct frame any_request(struct intended m, uint8_t own)
     return f;
 }
 
+#define ANY_ADDRESS 256
+
 /* Whether a key of this address has a map that is laid, not taught: what no message can say, documents 01 and 02 do not write. */
-static int beyond_the_wire(uint8_t own)
+static int beyond_the_wire(unsigned own)
 {
     for (unsigned i = 0; i < plain.held; i++)
         for (size_t j = 0; j < plain.sets[i].count; j++) {
             const struct plain_message *m = &plain.sets[i].messages[j];
-            if (m->source == own && (m->n > 31 || m->start > 249))
+            if ((own == ANY_ADDRESS || m->source == own) && (m->n > 31 || m->start > 249))
                 return 1;
         }
     return 0;
@@ -822,6 +827,309 @@ static void listing(void)
     unchanged();
 }
 
+/* ---- images */
+
+#define IMAGE 5400                    /* more than any table's image has, 64 positions in each of 16 keys */
+
+/* Saved into a buffer that is too short, exactly long enough, or longer; compared whole. */
+static void save(void)
+{
+    static uint8_t one[IMAGE], two[IMAGE];
+    size_t need = plain_image_size(&plain), size = one_in(2) ? need : one_in(3) ? need - 1 : one_in(3) ? below((unsigned)need) : need + below(60);
+    fill_bytes(one, two, IMAGE);
+    snprintf(told_call, sizeof told_call, "save an image of %zu bytes into %zu", need, size);
+    if (yendrolf_image_size(&box) != need)
+        differ("the size of the image");
+    yendrolf_told a = yendrolf_save(&box, one, size);
+    same(SAVE, a, plain_save(&plain, two, size));
+    unchanged();
+    if (a.number == 0)
+        saved[two[1]]++;
+    if (a.number == 0 && need > longest_image)
+        longest_image = need;
+    if (a.number == 0 && beyond_the_wire(ANY_ADDRESS))   /* then all but the image is compared */
+        memcpy(one, two, need);
+    if (memcmp(one, two, IMAGE) != 0)
+        differ("the image");
+}
+
+/* An image asked for a key of the scene, or for a row. */
+static void ask_image(const uint8_t *image, size_t size)
+{
+    if (one_in(2)) {
+        struct intended m = any_key();
+        snprintf(told_call, sizeof told_call, "%zu bytes asked for %u %u %u", size, m.source, m.destination, m.k);
+        yendrolf_row a = yendrolf_image_body(image, size, m.source, m.destination, m.k);
+        struct plain_body b = plain_image_body(image, size, m.source, m.destination, m.k);
+        same(BODY, a.told, b.answer);
+        if (a.offset != b.offset || a.length != b.length)
+            differ("where the body lies");
+    } else {
+        size_t row = one_in(8) ? (size_t)any() << 32 | any() : one_in(4) ? below(18) : below(size > 1 ? image[1] + 1u : 1);
+        snprintf(told_call, sizeof told_call, "%zu bytes asked for row %zu", size, row);
+        yendrolf_row a = yendrolf_image_row(image, size, row);
+        struct plain_row b = plain_image_row(image, size, row);
+        same(ROW, a.told, b.answer);
+        if (a.source != b.source || a.destination != b.destination || a.k != b.k || a.offset != b.offset || a.length != b.length)
+            differ("the row");
+    }
+    unchanged();
+}
+
+static yendrolf_box other, other_before;   /* another box, and the second implementation's */
+static struct plain_box plain_other;
+
+static void load_other(const uint8_t *image, size_t size)
+{
+    yendrolf_told a = yendrolf_load(&other, image, size);
+    same(LOAD, a, plain_load(&plain_other, image, size));
+    if (a.number != 0 && memcmp(&other, &other_before, sizeof other) != 0)
+        differ("a load that was refused changed the box");
+    unchanged();
+}
+
+/* Bytes that may be an image: loaded into an empty box, saved again where that went, and asked. */
+static void try_image(const uint8_t *image, size_t size, const char *how, size_t at)
+{
+    static uint8_t again[YENDROLF_IMAGE_BYTES];
+    yendrolf_empty(&other);
+    plain_empty(&plain_other);
+    memcpy(&other_before, &other, sizeof other);
+    snprintf(told_call, sizeof told_call, "load %zu bytes, %s at %zu", size, how, at);
+    load_other(image, size);
+    if (yendrolf_first_key(&other).held || (size == 2 && image[0] == 1 && image[1] == 0)) {
+        still_images++;
+        if (yendrolf_image_size(&other) != size || yendrolf_save(&other, again, sizeof again).number != 0 || memcmp(again, image, size) != 0)
+            differ("what was loaded is not saved as it was");
+    }
+    ask_image(image, size);
+}
+
+/* The rows and bodies of an image taken apart, changed in one way, and put together again: what is then wrong is one thing alone, and often nothing is. */
+static void rework(const uint8_t *image)
+{
+    static uint8_t out[IMAGE], bodies[18][200];
+    struct { uint8_t key[3]; size_t length; } parts[18];
+    unsigned count = image[1], gap_before = 99, moved = 99;
+    size_t gap = 0, at = 2 + 7 * (size_t)count;
+    for (unsigned i = 0; i < count; i++) {
+        const uint8_t *row = image + 2 + 7 * i;
+        memcpy(parts[i].key, row, 3);
+        parts[i].length = row[5] + 256u * row[6];
+        memcpy(bodies[i], image + at, parts[i].length);
+        at += parts[i].length;
+    }
+    unsigned what = below(9), i = count ? below(count) : 0, j = count ? below(count) : 0;
+    if (what == 0 || count == 0) {   /* a key more: a row too many, or one that does not rise, or an image */
+        static const uint8_t bodies_of_one[3][5] = { { 0xed, 0x05, 0x01, 0x81, 0x01 }, { 0xed, 0x05, 0x01, 0xc1, 0xfa }, { 0xed, 0x05, 0x01, 0xc1, 0xfb } };
+        memcpy(bodies[count], PICK(bodies_of_one), 5);
+        parts[count].length = 5;
+        parts[count].key[0] = one_in(4) ? (uint8_t)any() : 253;
+        parts[count].key[1] = one_in(4) ? (uint8_t)any() : 255;
+        parts[count++].key[2] = one_in(4) ? (uint8_t)any() : 15;
+    } else if (what == 1 || what == 2) {   /* two rows exchanged, with their bodies or without; or one twice */
+        uint8_t key[3];
+        memcpy(key, parts[i].key, 3);
+        memcpy(parts[i].key, parts[j].key, 3);
+        memcpy(parts[j].key, key, 3);
+        if (what == 2) {
+            uint8_t body[200];
+            size_t length = parts[i].length;
+            memcpy(body, bodies[i], sizeof body);
+            memcpy(bodies[i], bodies[j], sizeof body);
+            memcpy(bodies[j], body, sizeof body);
+            parts[i].length = parts[j].length;
+            parts[j].length = length;
+        }
+    } else if (what == 3) {   /* the last row left out, or laid twice */
+        if (one_in(2)) {
+            count--;
+        } else {
+            parts[count] = parts[count - 1];
+            memcpy(bodies[count], bodies[count - 1], sizeof bodies[0]);
+            count++;
+        }
+    } else if (what == 4) {   /* a body with its last message once more, without it, or with bytes behind it */
+        size_t length = parts[i].length;
+        memcpy(bodies[i] + length, bodies[i] + length - 5, 5);
+        parts[i].length = one_in(3) ? length + 5 : one_in(2) ? length - 5 : length + 1 + below(4);
+    } else if (what == 5) {
+        gap_before = one_in(3) ? count : i;
+        gap = 1 + below(7);
+    } else if (what == 6) {
+        moved = i;
+    } else {   /* a byte of all messages of a body: flags and n; or of one: start, position, SPN */
+        unsigned byte = what == 7 ? 3 : below(5), turned = 1u << below(8);
+        for (size_t p = 0; p < parts[i].length; p += 5)
+            if (what == 7 || p == 5 * (size_t)below((unsigned)(parts[i].length / 5)))
+                bodies[i][p + byte] ^= (uint8_t)turned;
+    }
+    out[0] = 1;
+    out[1] = (uint8_t)count;
+    at = 2 + 7 * (size_t)count;
+    for (i = 0; i <= count; i++) {
+        if (i == gap_before)
+            for (; gap > 0; gap--)
+                out[at++] = (uint8_t)any();
+        if (i == count)
+            break;
+        size_t said = i == moved ? at + (one_in(2) ? 5u : 1u << below(16)) : at;
+        uint8_t *row = out + 2 + 7 * i;
+        memcpy(row, parts[i].key, 3);
+        row[3] = (uint8_t)said;
+        row[4] = (uint8_t)(said >> 8);
+        row[5] = (uint8_t)parts[i].length;
+        row[6] = (uint8_t)(parts[i].length >> 8);
+        memcpy(out + at, bodies[i], parts[i].length);
+        at += parts[i].length;
+    }
+    reworked++;
+    try_image(out, at, "taken apart and changed, by way", what);
+}
+
+/* A box that holds one key, and this in conflict, loads nothing. */
+static void load_on_conflict(const uint8_t *image, size_t size)
+{
+    yendrolf_empty(&other);
+    plain_empty(&plain_other);
+    struct frame f = frame_of(&scene[0], 1, 0);
+    for (unsigned i = 0; i < 2; i++, f.data[6] ^= 0x80)
+        if (yendrolf_learn(&other, f.identifier, f.length, f.data).number != plain_learn(&plain_other, f.identifier, f.length, f.data).number)
+            differ("learning");
+    memcpy(&other_before, &other, sizeof other);
+    snprintf(told_call, sizeof told_call, "load %zu bytes into a box of one key, in conflict", size);
+    load_other(image, size);
+}
+
+/* The image damaged: every bit of a small one turned, of larger ones a bit of each byte or of some; cut at every length, or at some; bytes added. */
+static void damage(void)
+{
+    static uint8_t image[IMAGE + 70000];
+    if (beyond_the_wire(ANY_ADDRESS))
+        return;
+    size_t size = plain_image_size(&plain), step = 1 + size / 300;
+    plain_save(&plain, image, size);
+    try_image(image, size, "whole", 0);
+    load_on_conflict(image, size);
+    for (unsigned i = 0; i < 60; i++)
+        rework(image);
+    for (size_t at = below((unsigned)step); at < size; at += step)
+        for (unsigned bit = 0; bit < 8; bit++)
+            if (size <= 128 || bit == at % 8) {
+                image[at] ^= (uint8_t)(1u << bit);
+                try_image(image, size, "a bit turned", at);
+                image[at] ^= (uint8_t)(1u << bit);
+                turned_bits++;
+            }
+    for (size_t cut = below((unsigned)step); cut < size; cut += step, cuts++)
+        try_image(image, cut, "cut", cut);
+    for (unsigned i = 0; i < 12; i++, longer_images++) {
+        size_t more = i < 8 ? i + 1 : i == 8 ? 70000 : below(300);
+        for (size_t j = 0; j < more; j++)
+            image[size + j] = (uint8_t)(i % 2 ? 0 : i == 4 && size > 4 ? image[size - 5 + j] : any());
+        try_image(image, size + more, "bytes added", size);
+    }
+}
+
+/* An image of this scene or of an earlier one, whole or with a byte written over, loaded into the box as it is: mostly it holds a key. */
+static void load_here(void)
+{
+    static uint8_t kept[IMAGE], image[IMAGE];
+    static size_t kept_size;
+    if (!beyond_the_wire(ANY_ADDRESS) && (kept_size == 0 || one_in(3))) {
+        kept_size = plain_image_size(&plain);
+        plain_save(&plain, kept, kept_size);
+    }
+    memcpy(image, kept, kept_size);
+    if (kept_size && one_in(3))
+        image[below((unsigned)kept_size)] = (uint8_t)any();
+    snprintf(told_call, sizeof told_call, "load %zu bytes into a box of %u keys", kept_size, plain.held);
+    yendrolf_told a = yendrolf_load(&box, image, kept_size);
+    same(LOAD, a, plain_load(&plain, image, kept_size));
+    if (a.number != 0)
+        unchanged();
+    memcpy(&before, &box, sizeof box);
+    ask_image(image, kept_size);
+}
+
+static int same_told(yendrolf_told a, yendrolf_told b)
+{
+    return a.number == b.number && a.detail == b.detail && a.judgement == b.judgement && a.position == b.position;
+}
+
+/* A saved key, asked everything of the box and of the one that loaded its image; and its body, by what stands at each position. */
+static void same_of_both(uint8_t source, uint8_t destination, uint8_t k, const uint8_t *body, size_t length)
+{
+    static uint8_t one[BUFFER], two[BUFFER], one_states[PLACES], two_states[PLACES];
+    static uint32_t numbers[PLACES], one_numbers[PLACES], two_numbers[PLACES];
+    unsigned n = yendrolf_count(&box, source, destination, k);
+    snprintf(told_call, sizeof told_call, "%u %u %u, asked of a box and of the one that loaded its image", source, destination, k);
+    if (n == 0 || n != yendrolf_count(&other, source, destination, k) || length != 5 * n)
+        differ("the number of parameters");
+    if (!same_told(yendrolf_judge(&box, source, destination, k), yendrolf_judge(&other, source, destination, k)))
+        differ("the judgement");
+    for (unsigned p = 0; p <= n + 1; p++) {
+        yendrolf_parameter a = yendrolf_parameter_at(&box, source, destination, k, (uint8_t)p), b = yendrolf_parameter_at(&other, source, destination, k, (uint8_t)p);
+        if (!same_told(a.told, b.told) || a.spn != b.spn || a.start != b.start || a.width != b.width)
+            differ("the parameter");
+        yendrolf_found found = yendrolf_find(&box, source, destination, k, a.spn), again = yendrolf_find(&other, source, destination, k, a.spn);
+        if (!same_told(found.told, again.told) || found.position != again.position || found.start != again.start || found.width != again.width)
+            differ("what was found");
+        const uint8_t *five = body + 5 * (p >= 1 && p <= n ? p - 1 : 0);
+        if (p >= 1 && p <= n && (five[0] + 256u * five[1] + 65536u * (five[2] >> 5) != a.spn || (five[2] & 31) != p || (five[3] & 63) != n || five[4] != a.start + 1))
+            differ("the body");
+        numbers[p] = a.width >= 32 ? any() : any() & ((1u << a.width) - 1);
+    }
+    fill_bytes(one, two, sizeof one);
+    yendrolf_told packed = yendrolf_pack(&box, source, destination, k, numbers + 1, n, one, sizeof one);
+    if (!same_told(packed, yendrolf_pack(&other, source, destination, k, numbers + 1, n, two, sizeof two)) || packed.number != 0 || memcmp(one, two, sizeof one) != 0)
+        differ("what was packed");
+    fill_bytes(one_states, two_states, sizeof one_states);
+    memset(one_numbers, 7, sizeof one_numbers);
+    memset(two_numbers, 7, sizeof two_numbers);
+    if (!same_told(yendrolf_read(&box, source, destination, k, one, packed.detail, one_numbers, PLACES, one_states, PLACES),
+            yendrolf_read(&other, source, destination, k, one, packed.detail, two_numbers, PLACES, two_states, PLACES))
+        || memcmp(one_numbers, two_numbers, sizeof one_numbers) != 0 || memcmp(one_states, two_states, sizeof one_states) != 0)
+        differ("what was read");
+}
+
+/* A swapped box: it loads what this one saved, has the saved keys and no others, and answers for each as this one does. Then the calls go on with it, or with this one. */
+static void swap(void)
+{
+    static uint8_t image[YENDROLF_IMAGE_BYTES];
+    if (beyond_the_wire(ANY_ADDRESS))
+        return;
+    size_t size = yendrolf_image_size(&box), rows = 0, held = 0;
+    snprintf(told_call, sizeof told_call, "save an image of %zu bytes, for another box", size);
+    if (size > sizeof image || yendrolf_save(&box, image, size).number != 0)
+        differ("it is not saved");
+    memcpy(&other, &box, sizeof other);
+    memcpy(plain_other.pairs, plain.pairs, sizeof plain.pairs);
+    if (one_in(2))   /* a box that is empty since its keys were forgotten has other words than one that never had any */
+        for (yendrolf_key key = yendrolf_first_key(&other); key.held; key = yendrolf_first_key(&other))
+            yendrolf_forget(&other, key.source, key.destination, key.k);
+    else
+        yendrolf_empty(&other);
+    plain_empty(&plain_other);
+    memcpy(&other_before, &other, sizeof other);
+    load_other(image, size);
+    for (yendrolf_row row; (row = yendrolf_image_row(image, size, rows)).told.number == 0; rows++)
+        same_of_both((uint8_t)row.source, (uint8_t)row.destination, (uint8_t)row.k, image + row.offset, row.length);
+    for (yendrolf_key key = yendrolf_first_key(&other); key.held; key = yendrolf_next_key(&other, key.source, key.destination, key.k))
+        held++;
+    if (rows != image[1] || held != rows)
+        differ("the box that loaded an image has other keys");
+    unchanged();
+    swaps++;
+    if (one_in(2)) {
+        struct plain_box now = plain;
+        box = other;
+        plain = plain_other;
+        plain_other = now;
+        check_table();
+    }
+}
+
 /* ---- scenes */
 
 /* Maps that no wire can carry, of up to 64 positions with starts up to 14,279, laid into the table's words as crates/keyrow/specs/Row.antt has
@@ -879,7 +1187,33 @@ static void set_many(void)
         while (m->spn[3 - p] == scene_spn);
         m->spn[p] = scene_spn;
         m->start[1] = below(40);
-        m->start[2] = m->start[1] + 24 + below(60);   /* no width is above 24 */
+        m->start[2] = one_in(4) ? 247 + below(3) : m->start[1] + 24 + below(60);   /* no width is above 24 */
+        m->proprietary = below(2);
+        measure(m);
+        m->transport = m->bytes > 8;
+    }
+}
+
+/* Sixteen keys with maps of 31 positions, as long as messages can teach them, of SPNs of a byte at most: the longest image. */
+static void set_wide(void)
+{
+    int all = one_in(2);
+    scene_spn = 0;
+    scene_keys = 16;
+    for (unsigned i = 0; i < scene_keys; i++) {
+        struct intended *m = &scene[i];
+        unsigned at = below(3);
+        m->source = (uint8_t)(i * 16);
+        m->destination = (uint8_t)any();
+        m->k = (uint8_t)(1 + below(15));
+        m->n = all || !one_in(4) ? 31 : 30;
+        for (unsigned p = 1; p <= m->n; p++) {
+            do
+                m->spn[p] = 1488 + below(3334 - 1488);
+            while (plain_width(m->spn[p]) == 0 || plain_width(m->spn[p]) > 8 || has_spn(m, p - 1, m->spn[p]));
+            m->start[p] = at;
+            at += plain_width(m->spn[p]);
+        }
         m->proprietary = below(2);
         measure(m);
         m->transport = m->bytes > 8;
@@ -939,6 +1273,12 @@ static void one_call(void)
         scaled();
     else if (what < 948)
         locate(any_key());
+    else if (what < 954)
+        save();
+    else if (what < 957)
+        load_here();
+    else if (what < 959)
+        swap();
     else
         command(DECIDE);
 }
@@ -947,10 +1287,12 @@ static void play_scene(uint64_t until)
 {
     laid = one_in(3);
     set_scene(laid ? 64 : 31, laid ? 14279 : 249);
-    int many = !laid && one_in(6);
+    int many = !laid && one_in(6), wide = !laid && !many && one_in(20);
     if (many)
         set_many();
-    if (laid || many || one_in(4)) {
+    if (wide)
+        set_wide();
+    if (laid || many || wide || one_in(4)) {
         yendrolf_empty(&box);
         plain_empty(&plain);
     }
@@ -966,6 +1308,10 @@ static void play_scene(uint64_t until)
     memcpy(&before, &box, sizeof box);
     for (unsigned i = 0; many && i < 20; i++)
         locate(any_key());
+    for (unsigned i = 0; (many || wide) && i < 4; i++)
+        save();
+    if (one_in(6))
+        damage();
     unsigned length = laid ? 100 + below(200) : 200 + below(2000);
     for (unsigned i = 0; i < length && calls < until; i++) {
         one_call();
@@ -1006,6 +1352,11 @@ static void print_counts(void)
     printf("answers to a Parameter Locate, by their messages:");
     for (unsigned i = 0; i <= 16; i++)
         printf(" %" PRIu64, located[i]);
+    printf("\nimages saved, by their rows:");
+    for (unsigned i = 0; i <= 16; i++)
+        printf(" %" PRIu64, saved[i]);
+    printf("\nlongest image %" PRIu64 " bytes; images damaged by a bit %" PRIu64 ", cut %" PRIu64 ", with bytes added %" PRIu64 ", changed in their parts %"
+        PRIu64 ", of these and the whole ones still an image %" PRIu64 "; boxes swapped %" PRIu64, longest_image, turned_bits, cuts, longer_images, reworked, still_images, swaps);
     printf("\nparameters that the dictionary has not %" PRIu64 "\n", unknown_told);
     printf("states of numbers read: valid %" PRIu64 ", reserved %" PRIu64 ", error %" PRIu64 ", not available %" PRIu64 "\n", states_read[0], states_read[1],
         states_read[2], states_read[3]);

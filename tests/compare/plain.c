@@ -610,6 +610,167 @@ struct plain_answer plain_locate(const struct plain_box *box, unsigned own, uint
     return answer(0, count);
 }
 
+/* ---- Req 01: "Keep what the box learned" */
+
+/* "one row per usable key in rising order": the next one from the three numbers on, and its set, or NULL. */
+static const struct plain_set *next_saved(const struct plain_box *box, unsigned *source, unsigned *destination, unsigned *k)
+{
+    while (plain_key_from(box, source, destination, k)) {
+        const struct plain_set *set = &box->sets[set_of(box, *source, *destination, *k)];
+        unsigned position;
+        if (judgement_of(set, &position) == 0)
+            return set;
+        ++*k;   /* the three numbers need be no key that can be held */
+    }
+    return NULL;
+}
+
+static unsigned saved_count(const struct plain_box *box)
+{
+    unsigned count = 0, source = 0, destination = 0, k = 0;
+    for (; next_saved(box, &source, &destination, &k); k++)
+        count++;
+    return count;
+}
+
+size_t plain_image_size(const struct plain_box *box)
+{
+    size_t size = 2;
+    unsigned source = 0, destination = 0, k = 0;
+    const struct plain_set *set;
+    for (; (set = next_saved(box, &source, &destination, &k)); k++)
+        size += 7 + 5 * set->messages[0].n;
+    return size;
+}
+
+/* Two bytes, "least significant byte first" as all of 01's numbers. */
+static void put_two(uint8_t *at, size_t number)
+{
+    at[0] = (uint8_t)(number % 256);
+    at[1] = (uint8_t)(number / 256 % 256);
+}
+
+static unsigned get_two(const uint8_t *at)
+{
+    return at[0] + 256u * at[1];
+}
+
+/* Of each position the data bytes 4 to 8 of its message, as a record has them. */
+static void write_body(const struct plain_set *set, uint8_t *body)
+{
+    for (unsigned p = 1; p <= set->messages[0].n; p++)
+        for (size_t i = 0; i < set->count; i++)
+            if (set->messages[i].position == p) {
+                uint8_t record[13];
+                record_of(set->messages[i], record);
+                memcpy(body + 5 * (p - 1), record + 8, 5);
+            }
+}
+
+/* "a table of contents first .. then the bodies in that order without gaps", into a buffer that is long enough. */
+static void write_image(const struct plain_box *box, uint8_t *image)
+{
+    unsigned count = saved_count(box), source = 0, destination = 0, k = 0;
+    const struct plain_set *set;
+    size_t row = 2, at = 2 + 7 * count;
+    image[0] = 1;
+    image[1] = (uint8_t)count;
+    for (; (set = next_saved(box, &source, &destination, &k)); k++) {
+        size_t length = 5 * set->messages[0].n;
+        image[row] = (uint8_t)source;
+        image[row + 1] = (uint8_t)destination;
+        image[row + 2] = (uint8_t)k;
+        put_two(image + row + 3, at);
+        put_two(image + row + 5, length);
+        write_body(set, image + at);
+        row += 7;
+        at += length;
+    }
+}
+
+struct plain_answer plain_save(const struct plain_box *box, uint8_t *image, size_t size)
+{
+    if (size < plain_image_size(box))
+        return answer(13, 0);
+    write_image(box, image);
+    return answer(0, 0);
+}
+
+/* Learns the messages that an image stands for: of each row's key, five bytes after five, at the row's offset and for its length. 0 where a row says what no row can: more than
+   16 of them, a body that is not inside, or one of more than the 31 positions that a message can count. */
+static int hear_image(struct plain_box *box, const uint8_t *image, size_t size)
+{
+    if (size < 2 || image[1] > 16 || size < 2 + 7 * (size_t)image[1])
+        return 0;
+    for (const uint8_t *row = image + 2; row < image + 2 + 7 * image[1]; row += 7) {
+        unsigned offset = get_two(row + 3), length = get_two(row + 5);
+        if (offset + length > size || length > 5 * 31)
+            return 0;
+        for (unsigned at = offset; at + 5 <= offset + length; at += 5) {
+            uint32_t configured = 45056 + 256 * row[2];
+            uint8_t data[8] = { (uint8_t)bits(configured, 0, 8), (uint8_t)bits(configured, 8, 8), (uint8_t)bits(configured, 16, 8) };
+            memcpy(data + 3, image + at, 5);
+            plain_learn(box, ((6 * 1024 + 176) * 256 + row[1]) * 256 + row[0], 8, data);
+        }
+    }
+    return 1;
+}
+
+/* "one table has one image, and any other bytes are damaged": an empty box that learned what these stand for must have these as its image. */
+static int damaged(const uint8_t *image, size_t size)
+{
+    static struct plain_box heard;
+    static uint8_t again[2 + 16 * (7 + 5 * 64)];
+    plain_empty(&heard);
+    if (!hear_image(&heard, image, size) || plain_image_size(&heard) != size)
+        return 1;
+    write_image(&heard, again);
+    return memcmp(again, image, size) != 0;
+}
+
+struct plain_answer plain_load(struct plain_box *box, const uint8_t *image, size_t size)
+{
+    if (damaged(image, size))
+        return answer(21, 0);
+    if (box->held > 0)
+        return answer(23, 0);
+    hear_image(box, image, size);
+    return answer(0, 0);
+}
+
+/* "21 damaged image, 22 key or row not in it" */
+struct plain_row plain_image_row(const uint8_t *image, size_t size, size_t row)
+{
+    struct plain_row got;
+    memset(&got, 0, sizeof got);
+    got.answer = damaged(image, size) ? answer(21, 0) : row >= image[1] ? answer(22, 0) : answer(0, 0);
+    if (got.answer.number == 0) {
+        const uint8_t *at = image + 2 + 7 * row;
+        got.source = at[0];
+        got.destination = at[1];
+        got.k = at[2];
+        got.offset = get_two(at + 3);
+        got.length = get_two(at + 5);
+    }
+    return got;
+}
+
+struct plain_body plain_image_body(const uint8_t *image, size_t size, unsigned source, unsigned destination, unsigned k)
+{
+    struct plain_body got;
+    memset(&got, 0, sizeof got);
+    got.answer = damaged(image, size) ? answer(21, 0) : answer(22, 0);
+    for (unsigned row = 0; got.answer.number == 22 && row < image[1]; row++) {
+        const uint8_t *at = image + 2 + 7 * row;
+        if (at[0] == source && at[1] == destination && at[2] == k) {
+            got.answer = answer(0, 0);
+            got.offset = get_two(at + 3);
+            got.length = get_two(at + 5);
+        }
+    }
+    return got;
+}
+
 /* ---- "Port pairs" */
 
 void plain_fresh(struct plain_box *box)

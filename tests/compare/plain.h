@@ -46,6 +46,21 @@ struct plain_scaled {
     unsigned state;
 };
 
+/* Req 01, where a key's body lies in an image: both 0 on a refusal. */
+struct plain_body {
+    struct plain_answer answer;
+    unsigned offset;
+    unsigned length;
+};
+
+/* Req 01, a row of an image: all 0 on a refusal. */
+struct plain_row {
+    struct plain_answer answer;
+    unsigned source, destination, k;
+    unsigned offset;
+    unsigned length;
+};
+
 /* What one message says and is kept (01, "What one message says"). The start counts from 0, the position from 1. */
 struct plain_message {
     unsigned source, destination, k;
@@ -94,6 +109,14 @@ struct plain_parameter plain_parameter_at(const struct plain_box *box, unsigned 
 /* Req 03: answers a Parameter Locate as `own`, with records laid into `log`, which has `size` bytes, from byte `start` on. 1, 2, 3, 24, 13, or 0 with the count. */
 struct plain_answer plain_locate(const struct plain_box *box, unsigned own, uint32_t identifier, unsigned length, const uint8_t data[8], uint8_t *log, size_t size,
     size_t start);
+
+/* Req 01: how many bytes the image of a box has; the image written over the start of `image`, which has `size` bytes (13, or 0); an image of `size` bytes loaded (21, 23, or 0);
+   asked for a key, and for a row from 0 on (21, 22, or 0). docs/IMAGE.md has the form. */
+size_t plain_image_size(const struct plain_box *box);
+struct plain_answer plain_save(const struct plain_box *box, uint8_t *image, size_t size);
+struct plain_answer plain_load(struct plain_box *box, const uint8_t *image, size_t size);
+struct plain_body plain_image_body(const uint8_t *image, size_t size, unsigned source, unsigned destination, unsigned k);
+struct plain_row plain_image_row(const uint8_t *image, size_t size, size_t row);
 
 /* n of a key's messages; 0 where the key is in conflict or not held. */
 unsigned plain_count(const struct plain_box *box, unsigned source, unsigned destination, unsigned k);

@@ -1,14 +1,16 @@
 -- The words after a run of calls are those of what happened in it, so that every theorem on events is one on calls. Assumes nothing.
 use Prim.Native.Nat.{ℕ, zero, suc, _<_}
 use mathlib.Core.Path.{_≡_, refl, sym, ap, _∙_}
+use mathlib.Core.Bool.{true, false, cond, _&&_}
 use mathlib.Core.List.{List, [], _∷_, _++_}
 use lib.ListN.{getD}
+use Rattle.words.proofs.Tests.{test}
 use Rattle.message.specs.Message.{heard}
 use Rattle.record.specs.Record.{Bytes, recordIn}
 use Rattle.record.specs.Cut.{wholeIn, recordAt, overTo, over}
 use Rattle.record.specs.Chunk.{leftIn, carried}
 use Rattle.record.proofs.Bytes.{bytes-take, data-bytes}
-use Rattle.history.specs.History.{Event}
+use Rattle.history.specs.History.{Event, isEmpty, keys, kept}
 use Rattle.history.specs.Frames.{learns}
 use Rattle.table.specs.Learn.{emptyTable, learnt}
 use Rattle.learned.specs.Events.{wordsFrom, wordsBy, AllInWords}
@@ -16,7 +18,11 @@ use Rattle.learned.proofs.Frames.{frame-words, frame-in-words}
 use Rattle.learned.proofs.Histories.{words-append, all-append}
 use Rattle.feeding.specs.declared.Tally.{Tally}
 use Rattle.feeding.specs.Feed.{State, state, step, feeding}
-use Rattle.demands.specs.Calls.{Call, Frame, Forgets, Feeds, Empties, Reads, wordsAfter, run, framed, recorded, eventsAfter, happened, Carried, AllCarried}
+use Rattle.image.specs.Read.{eventsOf, good, loaded}
+use Rattle.taught.proofs.Histories.{taught-in-words}
+use Rattle.image.proofs.Again.{events-taught}
+use Rattle.image.proofs.Empty.{load-events}
+use Rattle.demands.specs.Calls.{Call, Frame, Forgets, Feeds, Empties, Loads, Reads, wordsAfter, run, framed, recorded, eventsAfter, happened, Carried, AllCarried}
 
 -- the words are those of the events, whose numbers have their place in them
 abbrev pub Kept : List ℕ → List Event → Type 0
@@ -52,6 +58,14 @@ kept-feed t h s chunk a b k =
     let log = carried (s .left) (s .carry) ++ chunk in
     kept-records log (bytes-append (carried (s .left) (s .carry)) chunk (bytes-take (leftIn (s .left)) (s .carry) a) b) (state t (s .counts)) h k (wholeIn log)
 
+-- ---- a load
+
+kept-load : (t : List ℕ) (h : List Event) (l : List ℕ) → Bytes l → Kept t h → Kept (loaded t l .memory) (eventsAfter h (Loads l))
+kept-load t h l b k = (
+  ap (λ (u : List ℕ). loaded u l .memory) (k .0) ∙ load-events h (k .1) l,
+  test (good l && isEmpty (keys (kept h))) (λ y. rw y (all-append (eventsOf l) h (taught-in-words (eventsOf l) (events-taught l b)) (k .1))) (λ n. rw n (k .1)),
+)
+
 -- ---- a run
 
 -- a call keeps them together
@@ -60,6 +74,7 @@ called t h (Frame id len d) b k = kept-frame t h id len d b k
 called t h (Forgets key) b k = (ap (λ (u : List ℕ). wordsAfter u (Forgets key)) (k .0), (record { key = b; row = tt }, k .1))
 called t h (Feeds s chunk) b k = kept-feed t h s chunk (b .0) (b .1) k
 called t h Empties b k = (refl, tt)
+called t h (Loads l) b k = kept-load t h l b k
 called t h Reads b k = k
 
 pub run-is : (calls : List Call) → AllCarried calls → Kept (run calls) (happened calls)

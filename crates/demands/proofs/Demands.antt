@@ -5,7 +5,7 @@
 -- Demand 1: the numbers of each call, what a refusal leaves, what answer 10 changes.
 -- Demand 2: when a map is usable; when packing and reading are done; the bits. Of any map, with 002's dictionary.
 -- Demand 3: for any run of calls from an empty table (specs/Calls.antt): frames with any identifier, length and bytes, forgets of any key, logs fed in any
--- chunks, emptying, and calls that only read; and for any run of calls on fresh filters.
+-- chunks, emptying, loads of any image, and calls that only read; and for any run of calls on fresh filters. (What 02 asks of images: Saved.antt.)
 --
 -- Assumes nothing. `Carried` and `InBytes` say only that bytes are bytes, and `length t ≡ tableWords` that a table has its length: what a call's types already say
 -- of its arguments.

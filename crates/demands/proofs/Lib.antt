@@ -1,3 +1,5 @@
 pub mod Calls
 pub mod Demands
 pub mod Located
+-- Req 01's sentences over runs of calls.
+pub mod Saved

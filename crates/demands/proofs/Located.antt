@@ -3,7 +3,7 @@
 -- Assumes nothing.
 use Prim.Native.Nat.{ℕ, zero, suc, _+_, _*_, _<_}
 use mathlib.Core.Path.{_≡_}
-use mathlib.Core.Bool.{true, false}
+use mathlib.Core.Bool.{true, false, _&&_}
 use mathlib.Core.Option.{none, some}
 use mathlib.Core.List.{List, [], _∷_, _++_}
 use lib.ListN.{length, drop, getD}
@@ -16,7 +16,7 @@ use Rattle.record.specs.Cut.{wholeIn, recordAt, overTo, over}
 use Rattle.record.specs.Chunk.{leftIn, carried}
 use Rattle.record.proofs.Bytes.{bytes-take, data-bytes}
 use Rattle.maps.specs.Maps.{Nothing, Held, placesWith, SameMembers}
-use Rattle.history.specs.History.{Event, since, setOf, Few}
+use Rattle.history.specs.History.{Event, isEmpty, keys, kept, since, setOf, Few}
 use Rattle.history.specs.Frames.{learns}
 use Rattle.history.proofs.Demand.{all-kept}
 use Rattle.history.proofs.Keys.{has}
@@ -24,6 +24,9 @@ use Rattle.keyrow.specs.Row.{InBytes}
 use Rattle.lookup.specs.View.{mapIn}
 use Rattle.table.specs.Learn.{emptyTable}
 use Rattle.feeding.specs.Feed.{started, feeding}
+use Rattle.words.proofs.Tests.{test}
+use Rattle.image.specs.Read.{eventsOf, good}
+use Rattle.image.proofs.Again.{events-taught}
 use Rattle.written.specs.Written.{logOf}
 use Rattle.written.proofs.Records.{heardIn}
 use Rattle.taught.specs.Taught.{AllTaught}
@@ -31,7 +34,7 @@ use Rattle.taught.proofs.Histories.{frame-taught, taught-append}
 use Rattle.locate.specs.Locate.{headIn, placement, locatedKeys, located, answersTo, locatedBy}
 use Rattle.locate.proofs.Heard.{read-back, same-located}
 use Rattle.locate.proofs.Fed.{same-placement, nothing-else}
-use Rattle.demands.specs.Calls.{Call, Frame, Forgets, Feeds, Empties, Reads, run, framed, recorded, eventsAfter, happened, Carried, AllCarried}
+use Rattle.demands.specs.Calls.{Call, Frame, Forgets, Feeds, Empties, Loads, Reads, run, framed, recorded, eventsAfter, happened, Carried, AllCarried}
 use Rattle.demands.proofs.Calls.{bytes-append, run-is}
 
 -- ---- every history of a run is one of frames
@@ -54,6 +57,8 @@ called-taught h (Feeds s chunk) b u =
     let log = carried (s .left) (s .carry) ++ chunk in
     taught-records log (bytes-append (carried (s .left) (s .carry)) chunk (bytes-take (leftIn (s .left)) (s .carry) (b .0)) (b .1)) h u (wholeIn log)
 called-taught h Empties b u = tt
+called-taught h (Loads l) b u =
+    test (good l && isEmpty (keys (kept h))) (λ y. rw y (taught-append (eventsOf l) h (events-taught l b) u)) (λ n. rw n u)
 called-taught h Reads b u = u
 
 pub run-taught : (calls : List Call) → AllCarried calls → AllTaught (happened calls)

@@ -2,6 +2,7 @@
 -- later room that changes the table joins with a line in each definition here and a case of `called` (proofs/Calls.antt).
 -- Assumes nothing.
 use Prim.Native.Nat.{ℕ, _<_}
+use mathlib.Core.Bool.{cond, _&&_}
 use mathlib.Core.List.{List, [], _∷_, _++_}
 use lib.ListN.{getD}
 use Rattle.message.specs.declared.Key.{Key}
@@ -9,31 +10,34 @@ use Rattle.message.specs.Message.{heard}
 use Rattle.record.specs.Record.{Bytes, recordIn}
 use Rattle.record.specs.Cut.{over}
 use Rattle.record.specs.Chunk.{carried}
-use Rattle.history.specs.History.{Event, Forget}
+use Rattle.history.specs.History.{Event, Forget, isEmpty, keys, kept}
 use Rattle.history.specs.Frames.{learns}
 use Rattle.keyrow.specs.Row.{keyNumber, InBytes}
 use Rattle.table.specs.Learn.{emptyTable, learnt}
 use Rattle.table.specs.Forget.{forgotten}
 use Rattle.feeding.specs.declared.Tally.{Tally}
 use Rattle.feeding.specs.Feed.{feeding}
+use Rattle.image.specs.Read.{eventsOf, good, loaded}
 
--- a frame (its identifier, its length, its data bytes), a forget of a key, a chunk of a log that is fed on top of a tally, the emptying of the table, or a call
--- that only reads the table
+-- a frame (its identifier, its length, its data bytes), a forget of a key, a chunk of a log that is fed on top of a tally, the emptying of the table, a load of an
+-- image, or a call that only reads the table
 pub data Call : Type 0 where
   Frame : ℕ → ℕ → List ℕ → Call
   Forgets : Key → Call
   Feeds : Tally → List ℕ → Call
   Empties : Call
+  Loads : List ℕ → Call
   Reads : Call
 
 -- ---- the words
 
--- the words after a call: what `learn`, `forget`, `feed` and `empty` promise
+-- the words after a call: what `learn`, `forget`, `feed`, `empty` and `load` promise
 abbrev pub wordsAfter : List ℕ → Call → List ℕ
 wordsAfter t (Frame id len d) = learnt t id len d .memory
 wordsAfter t (Forgets k) = forgotten t (keyNumber k) .memory
 wordsAfter t (Feeds s chunk) = feeding t s chunk .words
 wordsAfter t Empties = emptyTable
+wordsAfter t (Loads l) = loaded t l .memory
 wordsAfter t Reads = t
 
 -- the words after a run
@@ -51,12 +55,14 @@ framed h id len d = learns (heard id len d .message) ++ h
 unfoldable pub recorded : List Event → List ℕ → List Event
 recorded h r = framed h (recordIn r .id) (recordIn r .len) (recordIn r .bytes)
 
--- what has happened after a call. A chunk is the frames of the records that it completes; emptying begins anew
+-- what has happened after a call. A chunk is the frames of the records that it completes; emptying begins anew; a load "counts .. as the messages it stands for",
+-- and as nothing where it is refused: the image is damaged, or a key is held
 abbrev pub eventsAfter : List Event → Call → List Event
 eventsAfter h (Frame id len d) = framed h id len d
 eventsAfter h (Forgets k) = Forget k ∷ h
 eventsAfter h (Feeds s chunk) = over recorded h (carried (s .left) (s .carry) ++ chunk)
 eventsAfter h Empties = []
+eventsAfter h (Loads l) = cond (good l && isEmpty (keys (kept h))) (eventsOf l ++ h) h
 eventsAfter h Reads = h
 
 -- what happened in a run
@@ -71,6 +77,7 @@ Carried (Frame id len d) = (i : ℕ) → getD d i 0 < 256
 Carried (Forgets k) = InBytes k
 Carried (Feeds s chunk) = Bytes (s .carry) × Bytes chunk
 Carried Empties = Unit {0}
+Carried (Loads l) = Bytes l
 Carried Reads = Unit {0}
 
 abbrev pub AllCarried : List Call → Type 0

@@ -14,6 +14,8 @@ use Rattle.firmware.specs.declared.Log.{Log}
 use Rattle.firmware.specs.declared.Meant.{Meant}
 use Rattle.firmware.specs.declared.Measured.{Measured}
 use Rattle.firmware.specs.declared.Placed.{Placed}
+use Rattle.firmware.specs.declared.Row.{Row}
+use Rattle.image.specs.Part.{Entry}
 use Rattle.meaning.specs.declared.Meaning.{Meaning}
 use Rattle.meaning.specs.declared.Scaled.{Scaled}
 
@@ -44,6 +46,15 @@ meantOf m = record { offset = m .offset; resolution = m .resolution; width = m .
 -- a number in thousandths of its unit
 abbrev pub measuredOf : Scaled → Measured
 measuredOf s = record { value = s .value; kind = s .kind; state = s .state }
+
+-- a row of an image
+abbrev pub rowTo : Row → Entry
+rowTo r = record {
+  answer = saidTo (r .told);
+  key = record { source = r .source; destination = r .destination; k = r .k };
+  offset = r .offset;
+  size = r .length;
+}
 
 -- a held key: 1 and the key, or four times 0
 abbrev pub heldOf : Option Key → Held

@@ -11,16 +11,22 @@ ghost use Rattle.judge.specs.Judge.{countOf};
 ghost use Rattle.dictionary.specs.Dictionary.{widthOf};
 ghost use Rattle.ask.specs.Ask.{packedBy, reads, readBy, foundIn, foundBy, standingIn, standsBy};
 ghost use Rattle.open.specs.Open.{judgedBy};
+ghost use Rattle.image.specs.Write.{imageOf, savedInto};
+ghost use Rattle.image.specs.Read.{loaded};
+ghost use Rattle.image.specs.Part.{rowEntry, rowWith};
+ghost use Rattle.contents.specs.Rows.{entryIn};
+ghost use lib.ListN.{length};
 ghost use Rattle.meaning.specs.Meaning.{meaningOf, scaledOf};
 ghost use Rattle.locate.specs.Locate.{locatedBy};
 ghost use Rattle.feeding.specs.Feed.{started, fed, feeding};
 ghost use Rattle.listing.specs.Page.{finished};
 ghost use Rattle.pairs.specs.declared.Command.the-variants.{Add, Delete, Renew};
 ghost use Rattle.ports.specs.Filters.{commanded, decided, freshWords};
-ghost use Rattle.firmware.specs.Told.{meantOf, measuredOf, version, saidTo, toldOf, heldOf, findingTo, standingTo, tallyIn};
+ghost use Rattle.firmware.specs.Told.{meantOf, measuredOf, rowTo, version, saidTo, toldOf, heldOf, findingTo, standingTo, tallyIn};
 use answers::Answer;
 use ask::Found;
 use ask::Parameter;
+use contents::Listed;
 use feeding::Counts;
 use feeding::Tally;
 use lookup::Next;
@@ -108,6 +114,34 @@ pub struct Measured {
     pub value: i64,
     pub kind: u32,
     pub state: u32,
+}
+
+// A row of an image: its key, and where its body begins and how long it is; all 0 on a refusal.
+#[repr(C)]
+pub struct Row {
+    pub told: Told,
+    pub offset: usize,
+    pub length: usize,
+    pub source: u32,
+    pub destination: u32,
+    pub k: u32,
+}
+
+// A row of an image, as C gets it.
+fn row_in_c(row: Listed) -> Row
+    ensures { λ r. ⌜ rowTo r ≡ entryIn row ⌝ }
+{
+    let answer = row.answer;
+    let told = in_c(answer);
+    let key = row.key;
+    Row {
+        told,
+        offset: row.offset,
+        length: row.size,
+        source: key.source as u32,
+        destination: key.destination as u32,
+        k: key.k as u32,
+    }
 }
 
 // A held key, or four times 0. The fields are what the calls on a key take.
@@ -351,6 +385,48 @@ pub extern "C" fn yendrolf_table_locate(
         ≡ locatedBy widthOf (now (t .entry)) own id len (now (d .entry)) (now (log .entry)) start ⌝ }
 {
     in_c(locate::locate(t, own, id, len, d, log, start))
+}
+
+// ---- an image of what was learned
+
+// How many bytes the image of a table has.
+#[no_mangle]
+pub extern "C" fn yendrolf_table_image_size(t: &[u64; lookup::WORDS]) -> usize
+    ensures { λ r. ⌜ r ≡ length (imageOf (now (t .entry))) ⌝ }
+{
+    save::size(t)
+}
+
+// Lays the image of a table over the start of `image`.
+#[no_mangle]
+pub extern "C" fn yendrolf_table_save(t: &[u64; lookup::WORDS], image: &mut [u8]) -> Told
+    ensures { λ r. ⌜ outcome (saidTo r) (now (image .exit)) ≡ savedInto (now (t .entry)) (now (image .entry)) ⌝ }
+{
+    in_c(save::save(t, image))
+}
+
+// Loads an image into an empty table.
+#[no_mangle]
+pub extern "C" fn yendrolf_table_load(t: &mut [u64; lookup::WORDS], image: &[u8]) -> Told
+    ensures { λ r. ⌜ outcome (saidTo r) (now (t .exit)) ≡ loaded (now (t .entry)) (now (image .entry)) ⌝ }
+{
+    in_c(load::load(t, image))
+}
+
+// A row of an image by its number.
+#[no_mangle]
+pub extern "C" fn yendrolf_image_row(image: &[u8], row: usize) -> Row
+    ensures { λ r. ⌜ rowTo r ≡ rowEntry (now (image .entry)) row ⌝ }
+{
+    row_in_c(contents::row(image, row))
+}
+
+// The row of a key.
+#[no_mangle]
+pub extern "C" fn yendrolf_image_body(image: &[u8], source: u8, destination: u8, k: u8) -> Row
+    ensures { λ r. ⌜ rowTo r ≡ rowEntry (now (image .entry)) (rowWith (now (image .entry)) (keyOf source destination k)) ⌝ }
+{
+    row_in_c(contents::row_of(image, source, destination, k))
 }
 
 // ---- what numbers mean

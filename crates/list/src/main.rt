@@ -4,10 +4,8 @@
 // A Rattle program has no exit status. Where the script ./list starts it, with a word as its argument, it writes `done` on descriptor 3 once the log was
 // read to its end and the whole listing written; the script makes an exit status of that.
 use feeding::Tally;
-use libc::STDERR_FILENO;
 use libc::STDIN_FILENO;
 use libc::STDOUT_FILENO;
-use libc::types::timespec;
 use lookup::WORDS;
 
 const DONE_FILENO: i32 = 3;
@@ -19,33 +17,6 @@ struct Turn {
     whole: bool,
 }
 
-// Waits for ten milliseconds.
-fn nap() {
-    let asked = timespec {
-        tv_sec: 0,
-        tv_nsec: 10_000_000,
-    };
-    let mut left = timespec {
-        tv_sec: 0,
-        tv_nsec: 0,
-    };
-    libc::nanosleep(&asked, &mut left);
-}
-
-// Whether to read again, just after a read that failed. Standard input that another process has made non-blocking says EAGAIN while it has nothing yet.
-fn again() -> bool {
-    let why = os::errno();
-    if why == libc::EAGAIN {
-        nap();
-        return true;
-    }
-    if why == libc::EINTR {
-        return true;
-    }
-    os::fail(b"list: reading stopped, and only what came before is listed");
-    false
-}
-
 // Reads once. A read that fails for good ends the log there.
 fn read_on(t: &mut [u64; WORDS], tally: Tally) -> Turn {
     let mut buffer = io::large_buffer();
@@ -53,7 +24,7 @@ fn read_on(t: &mut [u64; WORDS], tally: Tally) -> Turn {
     let mut more = 0 < got;
     let mut whole = true;
     if got < 0 {
-        more = again();
+        more = reading::again(b"list: reading stopped, and only what came before is listed");
         whole = more;
     }
     let n = io::count(got, &buffer);

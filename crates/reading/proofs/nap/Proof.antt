@@ -45,10 +45,10 @@ use Rattle.libc.proofs.nanosleep as nano
 use Rattle.libc.proofs.nanosleep.Symbol as nano-def
 use Rattle.libc.proofs.nanosleep.Symbol.{name as #libc·nanosleep}
 use Rattle.libc.proofs.nanosleep.Met as nano-thm
-use Rattle.list.proofs.nap.Key.{name as #list·nap}
-use Rattle.list.proofs.nap as nap′
-use Rattle.list.proofs.nap.Statement as stated
-use Rattle.list.proofs.nap.Code as code
+use Rattle.reading.proofs.nap.Key.{name as #reading·nap}
+use Rattle.reading.proofs.nap as nap′
+use Rattle.reading.proofs.nap.Statement as stated
+use Rattle.reading.proofs.nap.Code as code
 
 -- what the code asks for
 abbrev nanoseconds : ℕ
@@ -157,6 +157,6 @@ pub nap-spec : {M : Type 1} → stated.statement M
 unfolding code.routine tablesOf
 nap-spec 𝓤 H 𝓜 𝓖 𝓡 =
     entered 𝓤 H (tripleOf 𝓤 H (𝓖 .A) nap′.signature (nap′.spec 𝓤 H (𝓖 .A) (𝓜 .mem) (𝓡 .run)))
-    (tables 𝓤 H 𝓜 𝓡 code.env .C) (tables 𝓤 H 𝓜 𝓡 code.env .Λ) #list·nap code.function (code.unfolded 𝓤 H 𝓜 𝓡)
+    (tables 𝓤 H 𝓜 𝓡 code.env .C) (tables 𝓤 H 𝓜 𝓡 code.env .Λ) #reading·nap code.function (code.unfolded 𝓤 H 𝓜 𝓡)
     (nap-meets 𝓤 H (𝓖 .A) (givenOf 𝓤 H 𝓜 𝓖) (𝓜 .mem) (𝓡 .run) (tablesOf 𝓤 H 𝓜 (tables 𝓤 H 𝓜 𝓡 code.env))
     (cited 𝓤 H (Nano 𝓤 H (𝓖 .A) (givenOf 𝓤 H 𝓜 𝓖) (𝓜 .mem) (𝓡 .run)) 𝓜 𝓡 code.env #libc·nanosleep nano-def.routine code.calls-libc·nanosleep (nano-thm.met 𝓤 H 𝓜 𝓖 𝓡)))

@@ -1,0 +1,135 @@
+-- The pieces joined are the image, and laid into a buffer that has room for them they are the image laid over its start. Assumes nothing.
+use Prim.Native.Nat.{ℕ, zero, suc, _+_, _*_, _≤_, _<_}
+use native.Mathlib.Nat.{add-zero, add-assoc}
+use native.Mathlib.Omega.{arith}
+use mathlib.Core.Path.{_≡_, refl, sym, ap, _∙_}
+use mathlib.Core.Option.{Option}
+use mathlib.Core.List.{List, [], _∷_, _++_, flatten, append-assoc}
+use borrow.Author.Tests.{le-leb, lt-ltb, le-ltb}
+use lib.Dec.{ltb}
+use lib.ListN.{length, take, drop, length-append, length-take, take-append-drop}
+use lib.Seq.{take-at, drop-append-add, drop-drop}
+use Rattle.answers.specs.Answers.{Said, outcome, plain}
+use Rattle.answers.specs.Tests.{_when_, tested}
+use Rattle.splice.specs.Splice.{splice, laid}
+use Rattle.splice.proofs.Laws.{length-splice, lay-no, laid-is}
+use Rattle.text.specs.Text.{Page, page, put, putAll}
+use Rattle.text.proofs.Pieces.{put-more, flat-more}
+use Rattle.message.specs.declared.Key.{Key}
+use Rattle.message.specs.declared.Head.{Head}
+use Rattle.message.specs.declared.Place.{Place}
+use Rattle.maps.specs.Maps.{Map, Nothing, Conflict, Held}
+use Rattle.lookup.specs.View.{mapIn}
+use Rattle.image.specs.Write.{bodyFrom, bodyOf, rowsOf, bodiesOf, behind, imageFrom, savedKeys, imageOf, savedInto}
+use Rattle.image.proofs.Parse.{length-rows}
+use Rattle.save.specs.Pieces.{bodyPieces, mapPieces, rowPieces, bodiesPieces, imagePieces}
+
+-- ---- joined
+
+flat-body : (h : Head) (places : ℕ → Option Place) (p n : ℕ) → flatten (bodyPieces h places p n) ≡ bodyFrom h places p n
+unfolding flatten bodyPieces bodyFrom
+flat-body h places p zero = refl
+flat-body h places p (suc n) = rw (flat-body h places (suc p) n)
+
+flat-map : (M : Map) → flatten (mapPieces M) ≡ bodyOf M
+unfolding flatten
+flat-map Nothing = refl
+flat-map Conflict = refl
+flat-map (Held h places) = flat-body h places 1 (h .n)
+
+module _ (map : Key → Map) where
+  flat-rows : (from : ℕ) (ks : List Key) → flatten (rowPieces map from ks) ≡ rowsOf map from ks
+  unfolding flatten rowPieces rowsOf
+  flat-rows from [] = refl
+  flat-rows from (k ∷ ks) = rw (flat-rows (from + length (bodyOf (map k))) ks)
+
+  flat-bodies : (ks : List Key) → flatten (bodiesPieces map ks) ≡ bodiesOf map ks
+  unfolding flatten bodiesPieces bodiesOf
+  flat-bodies [] = refl
+  flat-bodies (k ∷ ks) = flat-more (mapPieces (map k)) (bodiesPieces map ks) ∙ rw (flat-map (map k), flat-bodies ks)
+
+  flat-image : (ks : List Key) → flatten (imagePieces map ks) ≡ imageFrom map ks
+  unfolding flatten imageFrom
+  flat-image ks =
+      ap (λ (l : List ℕ). 1 ∷ length ks ∷ l)
+      (flat-more (rowPieces map (behind (length ks)) ks) (bodiesPieces map ks) ∙ rw (flat-rows (behind (length ks)) ks, flat-bodies ks))
+
+flat-is : (t : List ℕ) → flatten (imagePieces (mapIn t) (savedKeys t)) ≡ imageOf t
+unfolding imageOf
+flat-is t = flat-image (mapIn t) (savedKeys t)
+
+-- how many bytes the image has
+pub image-size : (t : List ℕ) → length (imageOf t) ≡ 2 + 7 * length (savedKeys t) + length (bodiesOf (mapIn t) (savedKeys t))
+unfolding imageOf imageFrom
+image-size t =
+    let e = length-rows (mapIn t) (behind (length (savedKeys t))) (savedKeys t) in
+    simp length-append (omega (arith, e))
+
+-- ---- laid one after another
+
+-- what is laid right behind what was laid: one laying of both
+splice-next : (l : List ℕ) (at : ℕ) (x y : List ℕ) → at + length x + length y ≤ length l → splice (splice l at x) (at + length x) y ≡ splice l at (x ++ y)
+splice-next l at x y h =
+    let p = take at l ++ x in
+    let n : length p ≡ at + length x = simp (length-append, length-take) (omega arith) in
+    let s : splice l at x ≡ p ++ drop (at + length x) l = sym (append-assoc (take at l) x _) in
+    rw (s, take-at p (drop (at + length x) l) (at + length x) n)
+    (let d : drop (at + length x + length y) (p ++ drop (at + length x) l) ≡ drop (at + (length x + length y)) l =
+    rw (← n, drop-append-add p (drop (length p) l) (length y), drop-drop (length y) (length p) l, n, add-assoc) refl in
+    rw (d, append-assoc (take at l) x _, length-append x y, append-assoc x y _))
+
+-- pieces in a buffer that has room for them
+in-room : (xs : List (List ℕ)) (at : ℕ) (l : List ℕ) → at + length (flatten xs) ≤ length l → putAll (page at l) xs ≡ page (at + length (flatten xs)) (splice l at (flatten xs))
+unfolding putAll put flatten
+in-room [] at l room = let e : at + 0 ≡ at = add-zero at in rw e (ap (page at) (sym (take-append-drop at l)))
+in-room (x ∷ xs) at l room =
+    let r : at + length x + length (flatten xs) ≤ length l = omega (arith, length-append x (flatten xs)) in
+    rw (le-leb (at + length x) (length l) (omega arith))
+    (in-room xs (at + length x) (splice l at x) (omega (arith, length-splice l at x (omega arith)))
+    ∙ (λ i. page (both i) (splice-next l at x (flatten xs) r i)))
+  where
+    both : at + length x + length (flatten xs) ≡ at + length (x ++ flatten xs)
+    both = omega (arith, length-append x (flatten xs))
+
+-- from the start of a buffer that has room, by any list
+laid-all : (xs : List (List ℕ)) (x out later : List ℕ) (r : ℕ) → flatten xs ≡ x → length x ≤ length out → page r later ≡ putAll (page 0 out) xs → (r ≡ length x) × (later ≡ laid out 0 x)
+laid-all xs x out later r f room e =
+    let z : 0 + length (flatten xs) ≡ length x = omega (arith, ap length f) in
+    let q = e ∙ in-room xs 0 out (omega arith) in
+    (ap (λ (p : Page). p .at) q ∙ z, ap (λ (p : Page). p .bytes) q ∙ ap (splice out 0) f ∙ laid-is out 0 x (omega arith) .1)
+
+-- what saving answers, by any list
+saved-13 : (x out later : List ℕ) (a : Said) → a ≡ plain 13 → length out < length x → later ≡ laid out 0 x
+    → outcome a later ≡ tested (plain 13 when ltb (length out) (length x) ∷ []) out (outcome (plain 0) (splice out 0 x))
+saved-13 x out later a e h f = rw (e, f ∙ sym (lay-no out 0 x (omega arith) .1), lt-ltb (length out) (length x) h)
+
+saved-0 : (x out later : List ℕ) (a : Said) → a ≡ plain 0 → length x ≤ length out → later ≡ laid out 0 x
+    → outcome a later ≡ tested (plain 13 when ltb (length out) (length x) ∷ []) out (outcome (plain 0) (splice out 0 x))
+saved-0 x out later a e h f = rw (e, f ∙ sym (laid-is out 0 x (omega arith) .1), le-ltb (length out) (length x) h)
+
+module _ (t out : List ℕ) where
+  -- the whole image, of its three parts
+  pub image-laid : (c : ℕ) (p q r : Page) → c ≡ length (savedKeys t) → p ≡ put out 0 (1 ∷ c ∷ []) → q ≡ putAll p (rowPieces (mapIn t) (2 + 7 * c) (savedKeys t))
+      → r ≡ putAll q (bodiesPieces (mapIn t) (savedKeys t)) → r ≡ putAll (page 0 out) (imagePieces (mapIn t) (savedKeys t))
+  unfolding putAll
+  image-laid c p q r e f g h =
+      h ∙ ap (λ (x : Page). putAll x (bodiesPieces (mapIn t) (savedKeys t))) (g ∙ ap (λ (x : Page). putAll x (rowPieces (mapIn t) (2 + 7 * c) (savedKeys t))) f)
+      ∙ ap (λ (n : ℕ). putAll (putAll (put out 0 (1 ∷ n ∷ [])) (rowPieces (mapIn t) (2 + 7 * n) (savedKeys t))) (bodiesPieces (mapIn t) (savedKeys t))) e
+      ∙ sym (put-more (rowPieces (mapIn t) (2 + 7 * length (savedKeys t)) (savedKeys t)) (bodiesPieces (mapIn t) (savedKeys t)) (put out 0 (1 ∷ length (savedKeys t) ∷ [])))
+
+  -- where it has room: how long it is, and what the buffer holds
+  pub laid-in : (r : ℕ) (later : List ℕ) → length (imageOf t) ≤ length out → page r later ≡ putAll (page 0 out) (imagePieces (mapIn t) (savedKeys t))
+      → (r ≡ length (imageOf t)) × (later ≡ laid out 0 (imageOf t))
+  laid-in r later room e = laid-all (imagePieces (mapIn t) (savedKeys t)) (imageOf t) out later r (flat-is t) room e
+
+  pub laid-not : length out < length (imageOf t) → out ≡ laid out 0 (imageOf t)
+  laid-not h = lay-no out 0 (imageOf t) (omega arith) .1
+
+  -- what saving answers
+  pub save-13 : (a : Said) (later : List ℕ) → a ≡ plain 13 → length out < length (imageOf t) → later ≡ laid out 0 (imageOf t) → outcome a later ≡ savedInto t out
+  unfolding savedInto
+  save-13 a later e h f = saved-13 (imageOf t) out later a e h f
+
+  pub save-0 : (a : Said) (later : List ℕ) → a ≡ plain 0 → length (imageOf t) ≤ length out → later ≡ laid out 0 (imageOf t) → outcome a later ≡ savedInto t out
+  unfolding savedInto
+  save-0 a later e h f = saved-0 (imageOf t) out later a e h f
