@@ -263,19 +263,21 @@ exit 1
 """
 
 
-def on_a_fresh_copy(rt, target, status, wrote, said, script="list"):
+def on_a_fresh_copy(rt, target, status, wrote, said, script="list", prints="listed"):
     """A script in a copy that has nothing built, with a stand-in for rt; standard error must be these lines, {} being the copy."""
     with tempfile.TemporaryDirectory() as folder:
         copy, kit = pathlib.Path(folder, "copy").resolve(), pathlib.Path(folder, "kit")
         (copy / "crates").mkdir(parents=True)
         (kit / "bin").mkdir(parents=True)
         (copy / "tools").mkdir()
+        (copy / "docs").mkdir()
         shutil.copy(ROOT / script, copy)
-        shutil.copy(ROOT / "tools" / "program.sh", copy / "tools")
-        (copy / "crates.txt").write_text("answers:\nother: answers\nlist: answers io   # a program\nkeep: answers io\n")
+        for name in ("tools/program.sh", "tools/shelf.sh", "tools/shelf.py", "docs/UNITS.md"):
+            shutil.copy(ROOT / name, copy / name)
+        (copy / "crates.txt").write_text("answers:\nother: answers\nlist: answers io   # a program\nkeep: answers io\nshelves: answers io\n")
         (kit / "bin" / "rt").write_text(rt)
         (kit / "bin" / "rt").chmod(0o755)
-        (kit / "program").write_text("#!/bin/sh\necho listed\necho done >&3\n")
+        (kit / "program").write_text(f"#!/bin/sh\necho {prints}\necho done >&3\n")
         (kit / "program").chmod(0o755)
         if target == "a file":
             (copy / "target").write_text("")

@@ -1,4 +1,4 @@
-# Sourced by the scripts that a person starts (./list, ./save), which have set `root` to the project's folder: what they read is looked at, their program is proved and built
+# Sourced by the scripts that a person starts (./list, ./save, ./shelf, ./why), which have set `root` to the project's folder: what they read is looked at, their program is proved and built
 # where that has not been done since its sources changed, and it is run. Such a script sets
 #   name     its own name, which every message begins with
 #   crate    its program
@@ -108,13 +108,13 @@ stop() {
     kill -"$1" $$
 }
 
-# Runs the program on what `read_from` found, and ends the script.
-run_program() {
+# Runs the program on what `read_from` found; further words go to it. The status is 0 where it has read and written everything, and 1 where not and it has said why.
+run() {
     prepare_program
     [ "$kind" != log ] || ! is_text "$input" ||
         printf '%s: this log looks like text, and a log is records of 13 bytes: tools/candump2log makes them from a trace of candump, tools/mklog from readable lines\n' "$name" >&2
 
-    # The program has no exit status. Given a word, it writes `done` on descriptor 3 once it has read everything and written everything (crates/list/src/main.rt);
+    # The program has no exit status. Given a word, it writes `done` on descriptor 3 once it has read everything and written everything (crates/reading/src/lib.rt);
     # where anything else happens to it, that is missing. Descriptors 3 and 4 are the two ends of a file that has no name any more.
     note=$(mktemp 2>/dev/null) || die 'no temporary file could be made: set TMPDIR to a folder where you may write'
     exec 3>"$note" 4<"$note"
@@ -129,15 +129,22 @@ run_program() {
 
     # In the background, so that signals are heard while it runs; there standard input has to be named, as 5.
     if [ "$input" = /dev/stdin ]; then exec 5<&0; else exec 5<"$input"; fi
-    set -- "$program"
+    set -- "$program" say-done "$@"
     [ -z "$emulated" ] || set -- "$emulated/bin/qemu-x86_64" "$emulated/lib/ld-linux-x86-64.so.2" --library-path "$emulated/lib" "$@"
-    "$@" say-done <&5 4<&- 5<&- &
+    "$@" <&5 4<&- 5<&- &
     pid=$!
     wait "$pid"
     status=$?
+    pid=
     read -r word <&4
-    [ "$word" != 'all done' ] || exit 0
+    [ "$word" != 'all done' ] || return 0
     [ "$status" -ne 141 ] || die "the $writes could not be written: its reader is gone"
     [ "$status" -le 128 ] || die "the program was stopped by signal $((status - 128)) before it was done"
-    exit 1   # it has said why
+    return 1
+}
+
+# The same, and ends the script.
+run_program() {
+    run "$@"
+    exit $?
 }

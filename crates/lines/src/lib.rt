@@ -1,5 +1,5 @@
-// What the test programs read and write: numbers and lists from standard input, a line of text for each answer. No promise can say what is read
-// or written; of each result it says the rest.
+// What the test programs read and write: numbers and lists from standard input, a line of text for each answer; and a line at once, as the programs write whose lines another
+// program sets for a person. No promise can say what is read or written; of each result it says the rest.
 ghost use mathlib.Core.Path.{_≡_};
 ghost use Prim.Native.Nat.{_+_, _*_, min};
 ghost use lib.ListN.{length, replicate};
@@ -104,4 +104,28 @@ pub fn words(n: u8, list: &mut [u32]) -> usize
         i += 1;
     }
     i
+}
+
+// ---- a line at once
+
+// Lays numbers into a page, each with a blank before it.
+fn lay_numbers(page: &mut [u8], from: usize, numbers: &[u64]) -> usize {
+    let mut at = from;
+    let mut i = 0;
+    while i < numbers.len() {
+        at = text::put_bytes(page, at, b" ");
+        at = text::put_decimal(page, at, numbers[i]);
+        i += 1;
+    }
+    at
+}
+
+// Writes a line of a word and numbers, for another program to read, and says whether all of it was written. It has room for eleven numbers of any size behind a short word.
+pub fn line(word: &[u8], numbers: &[u64]) -> bool {
+    let mut page = [0u8; 256];
+    let at = text::put_bytes(&mut page, 0, word);
+    let at = lay_numbers(&mut page, at, numbers);
+    let at = text::put_bytes(&mut page, at, b"\n");
+    let n = front(at, &page);
+    io::write_all(STDOUT_FILENO, &page[..n])
 }
