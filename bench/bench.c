@@ -32,6 +32,7 @@
 #define FIRST_30 6
 #define FIRST_64 1       /* these in `wide_box` */
 #define FIRST_1 6
+#define FIRST_odd 11
 
 struct frame {
     uint32_t identifier;
@@ -49,7 +50,7 @@ struct key {
 };
 
 static yendrolf_box box, wide_box, other_box, spare;
-static struct map maps_8[MAPS], maps_30[MAPS], maps_64[MAPS], maps_1[MAPS];
+static struct map maps_8[MAPS], maps_30[MAPS], maps_64[MAPS], maps_1[MAPS], maps_odd[MAPS];
 static struct key keys[KEYS];             /* of `box`, in the order of its rows */
 static struct frame frames[FRAMES];
 static uint32_t other_ids[FRAMES];
@@ -107,14 +108,17 @@ static const struct test {
     { "judge 8", 20000, BUILT(judge_8) },
     { "judge 30", 5000, BUILT(judge_30) },
     { "judge 64", 2400, BUILT(judge_64) },
+    { "judge 8, two of odd widths", 20000, BUILT(judge_odd) },
     { "pack 8", 16000, BUILT(pack_8) },
     { "pack 30", 4000, BUILT(pack_30) },
     { "pack 64", 2000, BUILT(pack_64) },
     { "pack one at the last bits", 40000, BUILT(pack_1) },
+    { "pack 8, two of odd widths", 16000, BUILT(pack_odd) },
     { "read 8", 16000, BUILT(read_8) },
     { "read 30", 4000, BUILT(read_30) },
     { "read 64", 2000, BUILT(read_64) },
     { "read one at the last bits", 40000, BUILT(read_1) },
+    { "read 8, two of odd widths", 16000, BUILT(read_odd) },
     { "find one of 8", 20000, BUILT(find) },
     { "parameter at a position of 8", 80000, BUILT(parameter) },
     { "locate an SPN in 16 keys", 20000, BUILT(locate) },
@@ -166,6 +170,18 @@ static const struct {
 
 static uint64_t rows_drawn, rows_sum;
 
+/* The bits from a parameter's start to its end: of an odd width (above 8, no multiple of 8) up to the end of its last byte. */
+static unsigned span_of(unsigned width)
+{
+    return width > 8 ? (width + 7) / 8 * 8 : width;
+}
+
+/* Where a parameter of this width may stand from bit `at` on: of an odd width at a multiple of 8. */
+static unsigned start_from(unsigned at, unsigned width)
+{
+    return span_of(width) > width ? (at + 7) / 8 * 8 : at;
+}
+
 /* A map of n different SPNs, each drawn evenly from the whole dictionary, one behind another; 0 where a start stands above `last` or its bits end above
    `end`, so that another map is drawn. */
 static int draw(struct map *m, unsigned n, unsigned last, unsigned end)
@@ -181,10 +197,11 @@ static int draw(struct map *m, unsigned n, unsigned last, unsigned end)
         taken[row] = 1;
         rows += row + 1;
         m->spns[i] = dictionary[row].spn;
+        at = start_from(at, dictionary[row].width);
         m->starts[i] = at;
         if (at > last)
             return 0;
-        at += dictionary[row].width;
+        at += span_of(dictionary[row].width);
     }
     if (at > end)
         return 0;
@@ -200,10 +217,49 @@ static void draw_last(struct map *m)
     unsigned row = any() % ENTRIES;
     m->n = 1;
     m->spns[0] = dictionary[row].spn;
-    m->starts[0] = 8 * YENDROLF_MOST_BYTES - dictionary[row].width;
+    m->starts[0] = 8 * YENDROLF_MOST_BYTES - span_of(dictionary[row].width);
     m->bytes = YENDROLF_MOST_BYTES;
     rows_drawn++;
     rows_sum += row + 1;
+}
+
+/* A row of the dictionary that is not taken yet, of a width from `least` to `most`; each is as likely. */
+static unsigned free_row(unsigned char taken[ENTRIES], unsigned least, unsigned most)
+{
+    unsigned row;
+    do
+        row = any() % ENTRIES;
+    while (taken[row] || dictionary[row].width < least || dictionary[row].width > most);
+    taken[row] = 1;
+    return row;
+}
+
+static void put_row(struct map *m, unsigned row, unsigned start)
+{
+    m->spns[m->n] = dictionary[row].spn;
+    m->starts[m->n++] = start;
+}
+
+/* A map of 8 different SPNs in 8 bytes, with the two of the dictionary that have an odd width, 19 bits, in either order: each from a byte of its own on, with another in the 5 bits that
+   it skips; then four of a byte at most, until they fit into the last 16 bits. */
+static void draw_odd(struct map *m)
+{
+    unsigned end;
+    do {
+        unsigned char taken[ENTRIES] = { 0 };
+        m->n = 0;
+        for (unsigned i = 0; i < 2; i++) {
+            put_row(m, free_row(taken, 17, 23), 24 * i);
+            put_row(m, free_row(taken, 1, 5), 24 * i + 16);
+        }
+        end = 48;
+        for (unsigned i = 0; i < 4; i++) {
+            unsigned row = free_row(taken, 1, 8);
+            put_row(m, row, end);
+            end += dictionary[row].width;
+        }
+    } while (end > 64);
+    m->bytes = 8;
 }
 
 static void fail(const char *what)
@@ -271,8 +327,10 @@ static void prepare(void)
         while (!draw(&maps_64[i], 64, 14279, 8 * YENDROLF_MOST_BYTES))
             ;
         draw_last(&maps_1[i]);
+        draw_odd(&maps_odd[i]);
         lay_map(&maps_64[i], i, (uint8_t)(FIRST_64 + i));
         lay_map(&maps_1[i], MAPS + i, (uint8_t)(FIRST_1 + i));
+        lay_map(&maps_odd[i], 2 * MAPS + i, (uint8_t)(FIRST_odd + i));
     }
     for (uint8_t i = 0; i < MAPS; i++)
         teach_map(&maps_8[i], (uint8_t)(FIRST_8 + i));
@@ -287,6 +345,7 @@ static void prepare(void)
     see_usable(&box, FIRST_30, maps_30);
     see_usable(&wide_box, FIRST_64, maps_64);
     see_usable(&wide_box, FIRST_1, maps_1);
+    see_usable(&wide_box, FIRST_odd, maps_odd);
     spare = box;
     saved_size = yendrolf_image_size(&box);
     if (yendrolf_save(&box, saved_image, sizeof saved_image).number != 0 || saved_image[1] != 2 * MAPS)
@@ -381,7 +440,8 @@ int main(int argc, char **argv)
     for (size_t t = 0; t < sizeof tests / sizeof tests[0]; t++)
         measure(&tests[t], part ? part : 1);
     printf("\n%s. Processor time, medians of %d runs that take turns, in one process. The %llu SPNs were drawn evenly from the dictionary's %zu rows\n"
-        "(mean row %.0f). State: %zu bytes (table %zu, filters %zu), the same for all.\n", argc > 1 ? argv[1] : "", RUNS, (unsigned long long)rows_drawn, ENTRIES,
-        (double)rows_sum / (double)rows_drawn, sizeof(yendrolf_box), sizeof box.table, sizeof box.filters);
+        "(mean row %.0f), but for those of the maps with odd widths. State: %zu bytes (table %zu, filters %zu), the same for all.\n",
+        argc > 1 ? argv[1] : "", RUNS, (unsigned long long)rows_drawn, ENTRIES, (double)rows_sum / (double)rows_drawn, sizeof(yendrolf_box), sizeof box.table,
+        sizeof box.filters);
     return 0;
 }

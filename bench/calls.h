@@ -76,6 +76,7 @@ OVER_MAPS(8, box.table)
 OVER_MAPS(30, box.table)
 OVER_MAPS(64, wide_box.table)
 OVER_MAPS(1, wide_box.table)
+OVER_MAPS(odd, wide_box.table)
 #undef OVER_MAPS
 
 /* One in eight is not in the map. */

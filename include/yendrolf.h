@@ -46,7 +46,7 @@ extern "C" {
 #endif
 
 /* The version of the calls: one more when a caller must be built again or changed. yendrolf_version() is that of the archive. */
-#define YENDROLF_VERSION 3u
+#define YENDROLF_VERSION 4u
 
 /* The numbers of answers (document 01, "Answer numbers"; from 21 on document 02, where a number that is not here is not given yet). */
 enum yendrolf_answer {
@@ -77,7 +77,8 @@ enum yendrolf_answer {
     YENDROLF_BAD_COMMAND = 24           /* a command byte that is not 0 */
 };
 
-/* The judgement of a map: the first of these that applies, with the lowest position that it applies to (0 where it is about no position). */
+/* The judgement of a map: the first of these from 1 on, in this order, that applies, with the lowest position that it applies to (0 where it is about no position); 0 where none does. A
+   width is odd where it is above 8 and no multiple of 8 (of the dictionary's widths, 19 is); the end of a parameter is start + width, of an odd width the end of its last byte. */
 enum yendrolf_judgement {
     YENDROLF_USABLE = 0,
     YENDROLF_IN_CONFLICT = 1,           /* two messages of the key contradict each other */
@@ -85,8 +86,9 @@ enum yendrolf_judgement {
     YENDROLF_UNKNOWN = 3,               /* its SPN is not in the dictionary */
     YENDROLF_REPEATED = 4,              /* its SPN stands at a lower position too */
     YENDROLF_NOT_ABOVE = 5,             /* its start is not above the start one position before */
+    YENDROLF_UNEVEN = 9,                /* its width is odd, and its start is not a multiple of 8: tested after 5 and before 6 */
     YENDROLF_OVERLAPS = 6,              /* it shares a bit with an earlier one */
-    YENDROLF_BEYOND = 7,                /* start + width above 14280 */
+    YENDROLF_BEYOND = 7,                /* its end is above 14280 */
     YENDROLF_TRANSPORT = 8              /* transport flag yes with a payload of 8 bytes, or no with a longer one */
 };
 
@@ -333,7 +335,11 @@ static inline yendrolf_told yendrolf_judge(const yendrolf_box *box, uint8_t sour
     return yendrolf_table_judge(box->table, source, destination, k);
 }
 
-/* Packs `count` numbers, in position order, into the first L bytes of `payload`, which has `size`; bytes past L keep what they held. 11; 12; 13 where
+/* How a payload lies, for pack and read. Payload bit p is the bit worth 2^(p mod 8) in byte p / 8, and bit i of a number stands at payload bit start + i. Of an odd width the bits of the
+   last, partial byte stand at its top, as the top three bits of an SPN do in SAE J1939-74, 5.3.2: of 19 bits, bits 16, 17 and 18 stand at start + 21, 22 and 23. The low bits that it
+   skips there are free, and another parameter may have them. A payload has L bytes: the larger of 8 and the largest end of a parameter, divided by 8 and rounded up. */
+
+/* Packs `count` numbers, in position order, into the first L bytes of `payload`, which has `size`, with 1 in every bit that no parameter has; bytes past L keep what they held. 11; 12; 13 where
    `count` is not n or `size` is below L; 14; or 0 with L as its detail. */
 static inline yendrolf_told yendrolf_pack(const yendrolf_box *box, uint8_t source, uint8_t destination, uint8_t k, const uint32_t *numbers,
     size_t count, uint8_t *payload, size_t size)
@@ -350,7 +356,7 @@ static inline yendrolf_told yendrolf_read(const yendrolf_box *box, uint8_t sourc
     return yendrolf_table_read(box->table, source, destination, k, payload, size, numbers, room, states, places);
 }
 
-/* Finds an SPN in a key's map: 11, 12, 18, or 0 with position, start and width. */
+/* Finds an SPN in a key's map: 11, 12, 18, or 0 with position, start and width. (Who lays or reads bits by these has to know how an odd width lies: above.) */
 static inline yendrolf_found yendrolf_find(const yendrolf_box *box, uint8_t source, uint8_t destination, uint8_t k, uint32_t spn)
 {
     return yendrolf_table_find(box->table, source, destination, k, spn);
@@ -414,7 +420,8 @@ static inline yendrolf_told yendrolf_finish(const yendrolf_box *box, yendrolf_lo
 }
 
 /* ---- the image of a table (docs/IMAGE.md): what the box learned as bytes that any box can load. It has the keys whose maps are usable, and nothing of the others and of the
-   filters. One table has one image, whatever the order that it learned in; any other bytes are damaged, and each call that is lent an image checks all of it. */
+   filters. One table has one image, whatever the order that it learned in; any other bytes are damaged, and each call that is lent an image checks all of it. One that was saved by version 3,
+   and has an odd width that does not start at a multiple of 8, is damaged too: its map is not usable any more. */
 
 /* How many bytes the image has: 2,594 at the most in a box that is changed by these calls alone. */
 static inline size_t yendrolf_image_size(const yendrolf_box *box)

@@ -18,7 +18,7 @@ static uint32_t answer_or_judgement(yendrolf_told told)
     }
     switch (told.judgement) {
     case YENDROLF_USABLE: case YENDROLF_IN_CONFLICT: case YENDROLF_MISSING: case YENDROLF_UNKNOWN: case YENDROLF_REPEATED: case YENDROLF_NOT_ABOVE:
-    case YENDROLF_OVERLAPS: case YENDROLF_BEYOND: case YENDROLF_TRANSPORT: return told.position;
+    case YENDROLF_UNEVEN: case YENDROLF_OVERLAPS: case YENDROLF_BEYOND: case YENDROLF_TRANSPORT: return told.position;
     default: return 0;
     }
 }
@@ -75,6 +75,24 @@ static uint32_t saved_rows(void)
     return (uint32_t)row;
 }
 
+/* Whether 19 bits (SPN 3147) lie as an SPN does in SAE J1939-74, 5.3.2, and are judged YENDROLF_UNEVEN where they start at bit 1. */
+static int nineteen_bits(void)
+{
+    static yendrolf_box other;
+    uint8_t data[YENDROLF_FRAME_BYTES] = { 0x00, 0xb1, 0x00, 0x4b, 0x0c, 0x01, 0x81, 1 }, payload[YENDROLF_FRAME_BYTES] = { 0 };
+    uint32_t number = 1517;
+    yendrolf_start(&other);
+    yendrolf_learn(&other, 0x18b02726, YENDROLF_FRAME_BYTES, data);
+    yendrolf_told packed = yendrolf_pack(&other, 38, 39, 1, &number, 1, payload, sizeof payload);
+    if (packed.number != YENDROLF_DONE || payload[0] != 0xed || payload[1] != 0x05 || payload[2] != 0x1f || payload[3] != 0xff)
+        return 0;
+    data[1] = 0xb2;
+    data[7] = 2;
+    yendrolf_learn(&other, 0x18b02726, YENDROLF_FRAME_BYTES, data);
+    yendrolf_told judged = yendrolf_judge(&other, 38, 39, 2);
+    return judged.judgement == YENDROLF_UNEVEN && judged.position == 1;
+}
+
 int main(void)
 {
     static const uint8_t data[YENDROLF_FRAME_BYTES] = { 0x00, 0xb1, 0x00, 0xed, 0x05, 0x01, 0x81, 1 };
@@ -90,7 +108,7 @@ int main(void)
     yendrolf_empty(&box);
     yendrolf_fresh(&box);
     sum += answer_or_judgement(yendrolf_learn(&box, 0x18b02726, YENDROLF_FRAME_BYTES, data));
-    if (saved_rows() != 1)
+    if (saved_rows() != 1 || !nineteen_bits())
         return 1;
     yendrolf_told answered = yendrolf_locate(&box, 38, 0x18af26f9, YENDROLF_FRAME_BYTES, asked, located, sizeof located, 0);
     if (answered.number != YENDROLF_DONE || answered.detail != 1 || located[0] != 38 || located[12] != 1)

@@ -239,14 +239,15 @@ def filler(dice, size):
 
 
 def cases(dice):
-    for make in (examples, order_of_refusals, every_bit, every_length, contents, bodies, unusable, sixteen, numbers_of_rows, goes_on, *[any_table] * 20, *[any_bytes] * 6):
+    for make in (examples, order_of_refusals, every_bit, every_length, contents, bodies, uneven, unusable, sixteen, numbers_of_rows, goes_on, *[any_table] * 20, *[any_bytes] * 6):
         yield from make(dice).cases
 
 
 A = [EXAMPLE, EXAMPLE._replace(position=2, spn=1519, start=8)]
 A_IMAGE = bytes.fromhex("01 01 26 27 01 09 00 0A 00 ED 05 01 82 01 EF 05 02 82 09")
 SHORT = [EXAMPLE._replace(source=12, k=2, n=1, transport=1, spn=1519, start=63)]
-THREE = [EXAMPLE._replace(destination=40, k=15, n=3, proprietary=0, position=p, spn=spn, start=start) for p, spn, start in ((1, 1519, 0), (2, 1517, 4), (3, 3147, 12))]
+THREE = [EXAMPLE._replace(destination=40, k=15, n=3, proprietary=0, position=p, spn=spn, start=start) for p, spn, start in ((1, 1519, 0), (2, 1517, 4), (3, 3147, 16))]
+BEFORE_REQ_04 = THREE[:2] + [THREE[2]._replace(start=12)]   # usable while all bits lay in one run
 
 
 def part(messages, **other):
@@ -411,7 +412,7 @@ def bodies(dice):
         told += [put_in(with_byte(five, 3, five[3] // 32 * 32 + n)) for n in (0, 1, 2, 4, 31)]
         told += [put_in(with_byte(five, 2, five[2] // 32 * 32 + position)) for position in (0, 1, 2, 3, 4, 31)]
         told += [put_in(with_byte(five, 2, five[2] % 32 + 32 * top)) for top in (1, 7)]
-        told += [put_in(with_byte(five, 4, wire)) for wire in (0, 1, 5, 13, 100, 249, 250, 251, 252, 254, 255)]
+        told += [put_in(with_byte(five, 4, wire)) for wire in (0, 1, 5, 13, 17, 25, 100, 249, 250, 251, 252, 254, 255)]
         told += [put_in(with_byte(five, at, value)) for at in (0, 1) for value in (0, 255, dice.below(256))]
     flags = lambda change: b"".join(with_byte(good[at:at + 5], 3, change(good[at + 3])) for at in (0, 5, 10))
     told += [flags(lambda b: b | 0x20), flags(lambda b: b ^ 0x80), flags(lambda b: b ^ 0x40), flags(lambda b: b - 3), flags(lambda b: b - 1), flags(lambda b: b + 1)]
@@ -424,10 +425,30 @@ def bodies(dice):
     return run
 
 
+def uneven(dice):
+    """Req 04: 'a saved map no longer usable makes its image damaged', one of 19 bits that does not start at a multiple of 8; and those that do, with another in the bits that they skip."""
+    run = Run()
+    good = joined([part(SHORT), part(THREE)])
+    assert run.tried(good, (38, 40, 15), 1) == 0
+    for image in (joined([part(BEFORE_REQ_04)]), joined([part(SHORT), part(BEFORE_REQ_04)]), joined([part(BEFORE_REQ_04), part(A, source=40)])):
+        assert run.tried(image, (38, 40, 15), 0) == 21
+    for wire in range(1, 251):
+        alone = EXAMPLE._replace(n=1, spn=3147 if wire % 3 else 3154, start=wire - 1, transport=0 if wire <= 41 else 1)
+        assert run.tried(joined([part([alone])]), (38, 39, 1), 0) == (0 if wire % 8 == 1 else 21)
+    for spn, start in [(3148, start) for start in range(15, 26)] + [(1519, start) for start in range(15, 26)] + [(3154, start) for start in (16, 23, 24, 25)]:
+        told = [EXAMPLE._replace(spn=3147), EXAMPLE._replace(position=2, spn=spn, start=start)]
+        usable = model.judge(model.map_of(told)) == (0, 0)
+        assert run.tried(joined([part(told)]), (38, 39, 1), 0) == (0 if usable else 21)
+    run.empty()   # a table with such a key saves the others
+    run.learn(*BEFORE_REQ_04, *A)
+    assert run.image(dice, 3) == A_IMAGE
+    return run
+
+
 def unusable(dice):
     """Tables with maps of each judgement beside usable ones: saved, they leave no trace; laid into an image, they damage it."""
     run = Run()
-    for number in (1, 2, 3, 4, 5, 6, 8):
+    for number in keys.ARRIVING:
         for _ in range(4):
             run.empty()
             key = keys.some_key(dice)
@@ -546,7 +567,7 @@ def any_table(dice):
     for _ in range(dice.one_of([1, 2, 4, 9, 14, 20])):
         told = keys.teachable(dice, keys.some_key(dice), keys.how_many(dice))
         if dice.below(4) == 0:
-            told = keys.spoiled(dice, dice.one_of([1, 2, 3, 4, 5, 6, 8]), told)
+            told = keys.spoiled(dice, dice.one_of(keys.ARRIVING), told)
         run.learn(*keys.mixed(dice, told))
         if dice.below(9) == 0 and run.box.keys():
             run.forget(dice.one_of(run.box.keys()))

@@ -4,11 +4,14 @@ import meanings
 import model
 import rooms
 from dice import TOP, case, line, word, words
-from lists import KNOWN, number_for
+from lists import KNOWN, ODD, number_for, size_of, some_spns, starts_for
 from model import Answer, Message
 from words import Words, cell_of
 
 EXAMPLE = Message(38, 39, 1, 2, 1, 0, 1, 1517, 0)
+
+# What a map can be judged that messages taught and that is not usable: 7 never arrives (docs/WIRE.md).
+ARRIVING = (1, 2, 3, 4, 5, 6, 8, 9)
 
 
 def configured(key):
@@ -148,11 +151,11 @@ class Run:
 
 
 def cases(dice):
-    for make in (examples, rooms_for_16, conflicts, same_messages, other_keys, orders, usable_maps, judgements, not_held, refused):
+    for make in (examples, odd_widths, rooms_for_16, conflicts, same_messages, other_keys, orders, usable_maps, judgements, not_held, refused):
         yield from make(dice).cases
     for _ in range(3):
         yield from any_calls(dice).cases
-    for make in (odd_rows, *[any_words] * 40):
+    for make in (strange_rows, *[any_words] * 40):
         yield from make(dice).cases
 
 
@@ -165,19 +168,17 @@ def some_key(dice):
 def teachable(dice, key, n, bits=249, having=None):
     """The messages of a usable map that the wire can carry: starts up to 249. Where an SPN is named, it stands at one of the positions."""
     while True:
-        spns = dice.some(n, KNOWN)
+        spns = some_spns(dice, n)
         if having is not None and having not in spns:
             spns[dice.below(n)] = having
-        start, placed = dice.one_of([0, 0, dice.below(9), dice.below(60)]), []
-        for spn in spns:
-            start += dice.one_of([0, 0, 0, 1, dice.below(6)])
-            placed.append((start, model.WIDTHS[spn]))
-            start += model.WIDTHS[spn]
-        if placed[-1][0] <= bits:
-            transport = 1 if model.length_of(placed) > 8 else 0
+        widths = [model.WIDTHS[spn] for spn in spns]
+        starts = starts_for(dice, widths, dice.one_of([0, 0, dice.below(9), dice.below(60)]), lambda: dice.one_of([0, 0, 0, 1, dice.below(6)]))
+        if starts[-1] <= bits:
+            transport = 1 if size_of(starts, widths) > 8 else 0
             proprietary = dice.below(2)
-            return [Message(*key, n, proprietary, transport, p, spn, start)
-                    for p, (spn, (start, width)) in enumerate(zip(spns, placed), 1)]
+            told = [Message(*key, n, proprietary, transport, p, spn, start) for p, (spn, start) in enumerate(zip(spns, starts), 1)]
+            assert model.judge(model.map_of(told)) == (0, 0)
+            return told
 
 
 def how_many(dice):
@@ -221,7 +222,39 @@ def examples(dice):
         run.ask(dice, (38, 39, k))
     run.learn(EXAMPLE._replace(k=6, n=1, transport=1, spn=1519, start=63))
     run.ask(dice, (38, 39, 6))
+    # Req 04: a number of 19 bits lies as 5.3.2 lays an SPN, 01's two here; another stands in the bits that it skips; it starts at a multiple of 8
+    nineteen = EXAMPLE._replace(k=7, n=1, spn=3147)
+    run.learn(nineteen)
+    assert run.pack((38, 39, 7), [1517], [0] * 8) == (0, [0xED, 0x05, 0x1F] + [255] * 5)
+    assert run.pack((38, 39, 7), [65536], [0] * 9) == (0, [0x00, 0x00, 0x3F] + [255] * 5 + [0])
+    run.pack((38, 39, 7), [2**19], [7] * 8)
+    run.read((38, 39, 7), [0xED, 0x05, 0x00] + [0] * 5, [7], [7])
+    run.learn(nineteen._replace(k=8, n=2), nineteen._replace(k=8, n=2, position=2, spn=3148, start=16))
+    assert run.pack((38, 39, 8), [65536, 21], [0] * 8) == (0, [0x00, 0x00, 0x35] + [255] * 5)
+    run.ask(dice, (38, 39, 8))
+    run.learn(nineteen._replace(k=9, start=12))
+    assert run.models[0].judge((38, 39, 9)) == Answer(0, 0, 9, 1)
+    run.ask(dice, (38, 39, 9))
     run.keys()
+    return run
+
+
+def odd_widths(dice):
+    """Req 04: the SPNs of 19 bits at every bit of a byte; with others in the bits that they skip; with others that share a bit with them, be it the one before or one further back."""
+    run = Run()
+    key = EXAMPLE[:3]
+    maps = [[(spn, start)] for spn in ODD for start in (*range(9), 39, 40, 41, 48, 240, 247, 248, 249)]
+    maps += [[(3147, 8), (spn, start)] for spn in (3148, 1519, 3149, 1517, 3154) for start in range(22, 34)]
+    maps += [[(3147, 0), (3149, 16), (spn, start)] for spn in (3148, 1519, 1517) for start in range(17, 26)]
+    maps += [[(3154, 0), (3149, 16), (3150, 17), (1519, start)] for start in range(18, 25)]
+    maps += [[(3147, 0), (3148, 16), (3154, 24), (3152, 40), (1517, 48)], [(1517, 0), (3154, 8), (3147, 32), (3149, 52)], [(3154, 0), (3147, 24), (1519, 41), (1517, 44)]]
+    maps += [[(1517, 0), (3147, 4)], [(1517, 8), (3147, 3)], [(3147, 1), (1517, 2)], [(3147, 1), (3154, 9)], [(3147, 0), (3148, 17), (3154, 25)], [(3147, 9), (3147, 33)]]
+    for said in maps:
+        transport = 1 if model.length_of([(start, model.WIDTHS[spn]) for spn, start in said]) > 8 else 0
+        told = [EXAMPLE._replace(n=len(said), transport=transport, position=p, spn=spn, start=start) for p, (spn, start) in enumerate(said, 1)]
+        run.learn(*mixed(dice, told))
+        run.ask(dice, key)
+        run.forget(key)
     return run
 
 
@@ -375,14 +408,18 @@ def spoiled(dice, number, messages):
         told[p] = told[p]._replace(start=min(told[p - 1].start + dice.within(1, max(model.WIDTHS.get(told[p - 1].spn, 0) - 1, 1)), 249))
     elif number == 8:
         told = [message._replace(transport=1 - message.transport) for message in told]
+    elif number == 9:
+        odd = next((i for i, message in enumerate(told) if message.spn in ODD), p)
+        spn = told[odd].spn if told[odd].spn in ODD else dice.one_of(ODD)
+        told[odd] = told[odd]._replace(spn=spn, start=min(told[odd].start // 8 * 8 + dice.within(1, 7), 249))
     return told
 
 
 def judgements(dice):
     """Maps spoiled for each judgement that can arrive, then for several at once."""
     run = Run()
-    alone = [[number] for number in (1, 2, 3, 4, 5, 6, 8) for _ in range(30)]
-    for numbers in alone + [dice.some(dice.within(2, 4), (2, 3, 4, 5, 6, 8)) for _ in range(80)]:
+    alone = [[number] for number in ARRIVING for _ in range(30)]
+    for numbers in alone + [dice.some(dice.within(2, 4), ARRIVING[1:]) for _ in range(100)]:
         key = some_key(dice)
         messages = teachable(dice, key, dice.one_of([1, 2, dice.within(2, 8), dice.within(2, 14)]))
         for number in numbers:
@@ -439,7 +476,7 @@ def any_calls(dice):
         keys += [key] if key not in keys else []
     messages = {key: teachable(dice, key, how_many(dice)) for key in keys}
     for key in keys[::4]:
-        messages[key] = spoiled(dice, dice.one_of([1, 2, 3, 4, 5, 6, 8]), messages[key])
+        messages[key] = spoiled(dice, dice.one_of(ARRIVING), messages[key])
     for turn in range(1500):
         held = run.says("keys")
         key = dice.one_of(keys if dice.below(3) or not held else held)
@@ -486,17 +523,16 @@ def write_row(run, i, row):
 
 
 def long_map(dice, n, last=None):
-    """n parameters beside each other, up to the last payload bit where it is said so."""
-    spns = dice.some(n, KNOWN)
-    start, rows = 0, []
-    for spn in spns:
-        rows.append((spn, start))
-        start += model.WIDTHS[spn] + dice.one_of([0, 0, 1, dice.below(20)])
-    by = (last or start) - (rows[-1][1] + model.WIDTHS[spns[-1]])
-    return [(spn, start + max(by, 0)) for spn, start in rows]
+    """n parameters beside each other; up to this payload bit where one is named, and then without an odd width, which could not be moved by any number of bits."""
+    spns = dice.some(n, [spn for spn in KNOWN if spn not in ODD]) if last else some_spns(dice, n)
+    widths = [model.WIDTHS[spn] for spn in spns]
+    gap = lambda: dice.one_of([0, 0, 1, dice.below(20)])
+    starts = starts_for(dice, widths, gap(), gap)
+    by = last - starts[-1] - widths[-1] if last else 0
+    return [(spn, start + by) for spn, start in zip(spns, starts)]
 
 
-def odd_rows(dice):
+def strange_rows(dice):
     """Rows of one kind each: long payloads, 64 positions, judgement 7, states and forms and cells beyond what a message says, a key in two rows,
     a key that no message names, a number that no key has."""
     run = Run()
@@ -536,8 +572,8 @@ def odd_rows(dice):
 
 
 def any_cell(dice):
-    spn = dice.one_of([1517, 1519, dice.one_of(KNOWN), dice.one_of(KNOWN), dice.below(2**19), dice.below(2**32)])
-    start = dice.one_of([dice.below(64), dice.below(250), dice.below(14280), dice.within(14240, 14290), dice.below(2**32)])
+    spn = dice.one_of([1517, 1519, dice.one_of(ODD), dice.one_of(KNOWN), dice.one_of(KNOWN), dice.below(2**19), dice.below(2**32)])
+    start = dice.one_of([dice.below(64), 8 * dice.below(32), dice.below(250), dice.below(14280), dice.within(14240, 14290), dice.below(2**32)])
     return dice.one_of([1 + spn + start * 2**32] * 5 + [0, 0, dice.below(2**32), 2**64 - 1])
 
 
@@ -547,7 +583,7 @@ def any_words(dice):
     keys = [some_key(dice) for _ in range(dice.within(4, 12))]
     for i in range(16):
         key = dice.one_of(keys)
-        kind = dice.below(6)
+        kind = dice.below(7)
         if kind < 3:
             row = row_for(dice, key, long_map(dice, dice.one_of([1, 2, 3, dice.within(1, 20)]), dice.one_of([None] * 5 + [14280, 14281])),
                           dice.one_of([1, 1, 1, 1, 0, 2, 3, 2**32, 2**64 - 1]), dice.one_of([0, 0, dice.below(2**32)]))
@@ -557,6 +593,8 @@ def any_words(dice):
         elif kind == 4:
             n = dice.one_of([0, 1, 2, 5, 63, 64, 65, 200, 255])
             row = [1, *row_for(dice, key, [])[1:2], n + 256 * dice.below(4)] + [any_cell(dice) for _ in range(dice.one_of([n, n, dice.below(65)]))]
+        elif kind == 5:   # an odd width at the last bits
+            row = row_for(dice, key, [(1517, 3), (dice.one_of(ODD), dice.one_of([14248, 14255, 14256, 14257, 14263, 14264, 14272]))][dice.below(2):])
         else:
             row = [dice.one_of([0, 1, 1, dice.below(2**32)]), dice.one_of([dice.below(2**24), 2**24 + dice.below(9), dice.below(2**32) * 2**32]),
                    dice.one_of([dice.below(2**10), dice.below(2**32) * 2**32 + dice.below(2**10)])] + [any_cell(dice) for _ in range(4)]

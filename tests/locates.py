@@ -259,7 +259,7 @@ def judgements(dice):
     run = Run()
     good = [EXAMPLE._replace(k=15, proprietary=0), EXAMPLE._replace(k=15, proprietary=0, position=2, spn=1519, start=8)]
     run.learn(*good)
-    for number in (1, 2, 3, 4, 5, 6, 8):
+    for number in keys.ARRIVING:
         for _ in range(6):
             key = (38, dice.below(256), dice.within(1, 14))
             told = keys.spoiled(dice, number, keys.teachable(dice, key, dice.within(2, 6), having=1517))
@@ -326,7 +326,7 @@ def any_table(dice):
         key = (dice.one_of([owns[0], owns[0], owns[1]]), dice.one_of([0, 39, dice.below(256), 255]), dice.within(1, 15))
         told = keys.teachable(dice, key, keys.how_many(dice), having=dice.one_of([*spns, spns[0], None]))
         if dice.below(5) == 0:
-            told = keys.spoiled(dice, dice.one_of([1, 2, 3, 4, 5, 6, 8]), told)
+            told = keys.spoiled(dice, dice.one_of(keys.ARRIVING), told)
         run.learn(*keys.mixed(dice, told))
     for _ in range(24):
         own = dice.one_of([*owns, *owns, owns[0], dice.below(256)])

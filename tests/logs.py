@@ -123,7 +123,7 @@ def any_record(dice, maps):
 
 def some_log(dice):
     maps = [keys.teachable(dice, keys.some_key(dice), keys.how_many(dice)) for _ in range(dice.within(1, 20))]
-    maps = [keys.spoiled(dice, dice.one_of([1, 2, 3, 4, 5, 6, 8]), told) if dice.below(3) == 0 else told for told in maps]
+    maps = [keys.spoiled(dice, dice.one_of(keys.ARRIVING), told) if dice.below(3) == 0 else told for told in maps]
     log = b"".join(told(keys.mixed(dice, told_map)) for told_map in maps if dice.below(2))
     log += b"".join(any_record(dice, maps) for _ in range(dice.below(60)))
     return log + bytes(dice.bytes(dice.one_of([0, 0, dice.below(13)])))

@@ -123,20 +123,35 @@ def in_conflict(messages):
     return any(contradict(a, b) for a in messages for b in messages)
 
 
+def odd(width):
+    """Req 04: 'a width above 8 that isn't a multiple of 8'."""
+    return width > 8 and width % 8 != 0
+
+
+def end_of(start, width):
+    """The payload bit after the last one of a parameter: 'start + width'; Req 04, of an odd width with its 'last, partial byte': 'the end of that byte'."""
+    return start + (width // 8 + 1) * 8 if odd(width) else start + width
+
+
 def taken_bits(start, width):
-    """'Bit i of the parameter's number stands at payload bit start + i.'"""
-    return [start + i for i in range(width)]
+    """Where the bits of a parameter's number stand, from its lowest on. 'Bit i of the parameter's number stands at payload bit start + i.' Req 04, of an odd width: the 'last,
+    partial byte is filled from bit 8 downward', so of the bits up to its end it has the first ones, byte by byte, and the last ones; between them are 'the low bits it
+    skips', and these 'are unassigned'."""
+    run = list(range(start, end_of(start, width)))
+    if not odd(width):
+        return run
+    return run[:width - width % 8] + run[-(width % 8):]
 
 
 def length_of(placed):
-    """L: 'the larger of 8 and the largest start + width divided by 8, rounded up', for a list of (start, width)."""
-    return max([8] + [(start + width + 7) // 8 for start, width in placed])
+    """L: 'the larger of 8 and the largest start + width divided by 8, rounded up', for a list of (start, width), with Req 04's 'end for L'."""
+    return max([8] + [(end_of(start, width) + 7) // 8 for start, width in placed])
 
 
 def judge_map(n, transport, rows):
     """The judgement and its position of a map without a conflict: rows[p - 1] is the (SPN, start, width) of position p, with
     width 0 where the dictionary hasn't the SPN, or None where the position is missing. 'The first of these that applies,
-    with its lowest position.'"""
+    with its lowest position'; 9 is Req 04's, 'tested after 5 and before 6'."""
     spn = lambda p: rows[p - 1][0]
     start = lambda p: rows[p - 1][1]
     width = lambda p: rows[p - 1][2]
@@ -146,8 +161,9 @@ def judge_map(n, transport, rows):
         (3, lambda p: width(p) == 0),
         (4, lambda p: any(spn(q) == spn(p) for q in range(1, p))),
         (5, lambda p: p > 1 and not start(p) > start(p - 1)),
+        (9, lambda p: odd(width(p)) and start(p) % 8 != 0),
         (6, lambda p: any(bits(q) & bits(p) for q in range(1, p))),
-        (7, lambda p: start(p) + width(p) > 14280),
+        (7, lambda p: end_of(start(p), width(p)) > 14280),
     ]
     for number, applies in rules:
         for p in range(1, n + 1):

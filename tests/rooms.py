@@ -30,9 +30,9 @@ def cases(dice):
 
 
 def judgements():
-    """Every judgement of 01, those that concern a position with the lowest, the highest and one between."""
-    for number in range(9):
-        for position in ((1, 17, 64, 255) if 2 <= number <= 7 else (0,)):
+    """Every judgement of 01 and Req 04's 9, those that concern a position with the lowest, the highest and one between."""
+    for number in range(10):
+        for position in ((1, 17, 64, 255) if 2 <= number <= 7 or number == 9 else (0,)):
             yield number, position
 
 

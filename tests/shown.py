@@ -249,6 +249,7 @@ CHECKS = [
     words("./shelf samples/two-records.log", "two-records.shelf"),
     words("./shelf samples/shelf.log", "shelf.shelf"),
     words("./shelf samples/seventeen.log", "seventeen.shelf"),
+    words("./shelf samples/odd.log", "odd.shelf"),
     words("./shelf samples/empty.log", "empty.shelf"),
     words("./shelf samples/cut.log", "cut.shelf", "shelf: " + CUT + ", or use --image where it is an image", 1),
     words("./shelf --image samples/shelf.image", "shelf-image.shelf"),

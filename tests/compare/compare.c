@@ -46,7 +46,7 @@ static const char *const call_names[KINDS] = { "learn", "forget", "count", "judg
     "delete", "renew", "decide", "listing", "save", "load", "body", "row" };
 #define LAST_ANSWER 24
 static uint64_t answers[KINDS][LAST_ANSWER + 1], kinds[KINDS];
-static uint64_t judgements[2][9];     /* of judging, and of answer 12 */
+static uint64_t judgements[2][10];    /* of judging, and of answer 12 */
 static uint64_t pass_or_block[2], longest, most_numbers;
 static uint64_t unknown_told;         /* parameters whose SPN the dictionary has not */
 static uint64_t states_read[4];       /* of numbers that were read */
@@ -56,6 +56,9 @@ static uint64_t located[17];          /* answers to a Parameter Locate, by their
 static uint64_t saved[17];            /* images, by their rows */
 static uint64_t turned_bits, cuts, longer_images, reworked, still_images;   /* images that were damaged, and how many were images all the same */
 static uint64_t swaps, longest_image;
+static uint64_t odd_packed, in_skipped;   /* numbers packed that have an odd width, and that stand in the bits which one skips */
+static uint64_t looked_back;          /* judgements 6 that the position before does not earn */
+static uint64_t uneven_images;        /* images with an odd width off its multiple of 8 */
 
 static char told_call[512];           /* the call under way, for a report */
 
@@ -78,7 +81,7 @@ static void same(enum call kind, yendrolf_told a, struct plain_answer b)
         differ_answers(a, b);
     calls++;
     kinds[kind]++;
-    if (b.number > LAST_ANSWER || b.judgement > 8)
+    if (b.number > LAST_ANSWER || b.judgement > 9)
         differ("no answer of documents 01 and 02");
     answers[kind][b.number]++;
     if (kind == JUDGE && b.number == 0)
@@ -124,10 +127,16 @@ static uint32_t scene_spn;            /* that many maps of this scene have, or 0
 static const uint32_t known[] = { 1488, 1489, 1490, 1497, 1517, 1519, 3146, 3147, 3148, 3149, 3150, 3151, 3152, 3153, 3154, 3155, 3329, 3330, 3333 };
 static const uint32_t unknown[] = { 0, 1, 521, 1487, 1518, 2848, 3334, 65536, 66053, 524287 };
 
+/* Those of odd widths, and small ones that fit into the bits which these skip. */
+static const uint32_t of_odd_width[] = { 3147, 3154 };
+static const uint32_t small[] = { 1497, 1498, 1519, 1520, 3148, 3149, 3150, 3151, 3152 };
+
 static uint32_t any_spn(void)
 {
     if (one_in(200))
         return PICK(unknown);
+    if (one_in(12))
+        return PICK(of_odd_width);
     if (scene_spn && one_in(3))
         return scene_spn;
     if (one_in(3))
@@ -151,7 +160,7 @@ static void measure(struct intended *m)
 {
     unsigned end = 0;
     for (unsigned p = 1; p <= m->n; p++) {
-        unsigned e = m->start[p] + plain_width(m->spn[p]);
+        unsigned e = plain_end(m->start[p], plain_width(m->spn[p]));
         if (e > end)
             end = e;
     }
@@ -160,30 +169,73 @@ static void measure(struct intended *m)
         m->bytes = YENDROLF_MOST_BYTES;
 }
 
+/* Where the next parameter of a map may stand: behind `end`, the end of all so far, or in the bits from `low` up to `high`, which the odd one before it skips and nothing has. */
+struct spots {
+    unsigned end, low, high;
+};
+
+/* The start of the next parameter: in skipped bits where it fits, mostly; else `gap` bits behind the others, of an odd width at a multiple of 8 but for some. */
+static unsigned next_start(struct spots *s, unsigned width, unsigned gap)
+{
+    if (width && width <= s->high - s->low && !one_in(4)) {
+        unsigned inside = s->low + below(s->high - s->low - width + 1);
+        s->low = inside + width;
+        return inside;
+    }
+    unsigned start = s->end + gap, odd = (unsigned)plain_odd(width);
+    if (odd && !one_in(16))
+        start = (start + 7) / 8 * 8;
+    s->end = plain_end(start, width ? width : 1);
+    s->low = odd ? start + width / 8 * 8 : 0;
+    s->high = odd ? s->end - width % 8 : 0;
+    return start;
+}
+
+/* The SPN behind the first ones of a map: behind an odd width mostly a small one, which fits into the bits that it skips. */
+static uint32_t next_spn(const struct intended *m, unsigned positions)
+{
+    return positions && plain_odd(plain_width(m->spn[positions])) && !one_in(3) ? PICK(small) : any_spn();
+}
+
+/* Whether a map of many positions has no room for this SPN: for the two of odd widths it has. */
+static int too_wide(uint32_t spn)
+{
+    return plain_width(spn) > 8 && !plain_odd(plain_width(spn));
+}
+
+/* The lowest position of an odd width, or 0. */
+static unsigned odd_position(const struct intended *m)
+{
+    for (unsigned p = 1; p <= m->n; p++)
+        if (plain_odd(plain_width(m->spn[p])))
+            return p;
+    return 0;
+}
+
 /* A map of at most `most` positions, no start above `last`, that is usable but for a fault that one in three has. */
 static void intend(struct intended *m, unsigned most, unsigned last)
 {
-    unsigned want = one_in(3) ? 1 + below(most) : one_in(2) ? 1 + below(most < 9 ? most : 9) : 1 + below(3), at = one_in(2) ? below(9) : 0;
+    unsigned want = one_in(3) ? 1 + below(most) : one_in(2) ? 1 + below(most < 9 ? most : 9) : 1 + below(3);
+    struct spots spots = { one_in(2) ? below(9) : 0, 0, 0 };
     if (one_in(8))
-        at = last > 80 ? last - below(80) : 0;
+        spots.end = last > 80 ? last - below(80) : 0;
     if (one_in(8))
         want = most;
     m->n = 0;
     for (unsigned p = 1; p <= want; p++) {
         uint32_t spn;
         do
-            spn = any_spn();
-        while ((has_spn(m, p - 1, spn) || (want > 8 && plain_width(spn) > 8)) && !one_in(300));
+            spn = next_spn(m, p - 1);
+        while ((has_spn(m, p - 1, spn) || (want > 8 && too_wide(spn))) && !one_in(300));
         unsigned gap = one_in(3) ? below(9) : 0;
         if (last > 250 && one_in(4))
             gap = below(2 * last / want);
-        if (at + gap > last)
+        unsigned start = next_start(&spots, plain_width(spn), gap);
+        if (start > last)
             break;
-        at += gap;
         m->n = p;
         m->spn[p] = spn;
-        m->start[p] = at;
-        at += plain_width(spn) ? plain_width(spn) : 1;
+        m->start[p] = start;
     }
     if (m->n == 0) {
         m->n = 1;
@@ -194,7 +246,7 @@ static void intend(struct intended *m, unsigned most, unsigned last)
     measure(m);
     m->transport = m->bytes > 8;
     unsigned p = 1 + below(m->n), q = 1 + below(m->n);
-    switch (below(24)) {
+    switch (below(36)) {
     case 0:
         m->spn[p] = PICK(unknown);
         break;
@@ -220,6 +272,18 @@ static void intend(struct intended *m, unsigned most, unsigned last)
     case 7:
         if (m->n < most)
             m->n++, m->spn[m->n] = 1519, m->start[m->n] = 62 + below(3);
+        break;
+    case 8:   /* an odd width off its multiple of 8 */
+        if ((p = odd_position(m)))
+            m->start[p] = m->start[p] / 8 * 8 + 1 + below(7);
+        if (p && m->start[p] > last)
+            m->start[p] = last;
+        break;
+    case 9:   /* the second behind an odd width, mostly onto its top bits: often, since few maps have one there */
+    case 10:
+    case 11:
+        if ((p = odd_position(m)) && p + 2 <= m->n && m->start[p + 1] + 7 <= last)
+            m->start[p + 2] = m->start[p + 1] + 1 + below(7);
         break;
     }
     measure(m);
@@ -406,11 +470,21 @@ static void count(struct intended m)
     unchanged();
 }
 
+/* Judgement 6 at a position of a key: whether it begins behind the one before, so that it shares its bit with one further back. */
+static int further_back(struct intended m, unsigned position)
+{
+    struct plain_parameter here = plain_parameter_at(&plain, m.source, m.destination, m.k, position);
+    struct plain_parameter before_it = plain_parameter_at(&plain, m.source, m.destination, m.k, position - 1);
+    return here.start >= plain_end(before_it.start, before_it.width);
+}
+
 static void judge(struct intended m)
 {
     snprintf(told_call, sizeof told_call, "judge %u %u %u", m.source, m.destination, m.k);
-    same(JUDGE, yendrolf_judge(&box, m.source, m.destination, m.k), plain_judge(&plain, m.source, m.destination, m.k));
+    struct plain_answer b = plain_judge(&plain, m.source, m.destination, m.k);
+    same(JUDGE, yendrolf_judge(&box, m.source, m.destination, m.k), b);
     unchanged();
+    looked_back += b.judgement == 6 && further_back(m, b.position);
 }
 
 #define BUFFER (YENDROLF_MOST_BYTES + 40)
@@ -461,6 +535,19 @@ static uint32_t edge(unsigned width)
     return (248 + below(8)) << low | (one_in(2) ? (1u << low) - 1 : one_in(2) ? 0 : any() & ((1u << low) - 1));
 }
 
+/* What a map that was packed has of odd widths. */
+static void count_odd(const struct intended *m)
+{
+    unsigned end = 0;
+    for (unsigned p = 1; p <= m->n; p++) {
+        unsigned width = plain_width(m->spn[p]), own = plain_end(m->start[p], width);
+        odd_packed += (unsigned)plain_odd(width);
+        in_skipped += m->start[p] < end;   /* in a usable map nothing else begins before the end of another */
+        if (own > end)
+            end = own;
+    }
+}
+
 static void pack(struct intended m)
 {
     static uint8_t one[BUFFER], two[BUFFER];
@@ -491,6 +578,7 @@ static void pack(struct intended m)
             longest = a.detail;
         if (count > most_numbers)
             most_numbers = count;
+        count_odd(&m);
         read_back(m, one, a.detail, numbers);
     }
 }
@@ -905,12 +993,33 @@ static void try_image(const uint8_t *image, size_t size, const char *how, size_t
     ask_image(image, size);
 }
 
+/* Moves a message of an odd width off its multiple of 8, the first of a body that has one: whether it has. */
+static int make_uneven(uint8_t *body, size_t length)
+{
+    for (uint8_t *five = body; five < body + length; five += 5)
+        if (plain_odd(plain_width(five[0] + 256u * five[1] + 65536u * (five[2] >> 5)))) {
+            unsigned wire = five[4] + 1 + below(7);
+            five[4] = (uint8_t)(wire > 250 ? 250 : wire);
+            return 1;
+        }
+    return 0;
+}
+
+/* Bytes that no box has as its image since Req 04: "A saved map no longer usable makes its image damaged." */
+static void must_be_damaged(const uint8_t *image, size_t size)
+{
+    uneven_images++;
+    if (plain_load(&plain_other, image, size).number != 21)
+        differ("an image with an odd width that does not start at a multiple of 8 is not damaged");
+}
+
 /* The rows and bodies of an image taken apart, changed in one way, and put together again: what is then wrong is one thing alone, and often nothing is. */
 static void rework(const uint8_t *image)
 {
     static uint8_t out[IMAGE], bodies[18][200];
     struct { uint8_t key[3]; size_t length; } parts[18];
     unsigned count = image[1], gap_before = 99, moved = 99;
+    int uneven = 0;
     size_t gap = 0, at = 2 + 7 * (size_t)count;
     for (unsigned i = 0; i < count; i++) {
         const uint8_t *row = image + 2 + 7 * i;
@@ -919,9 +1028,10 @@ static void rework(const uint8_t *image)
         memcpy(bodies[i], image + at, parts[i].length);
         at += parts[i].length;
     }
-    unsigned what = below(9), i = count ? below(count) : 0, j = count ? below(count) : 0;
+    unsigned what = below(10), i = count ? below(count) : 0, j = count ? below(count) : 0;
     if (what == 0 || count == 0) {   /* a key more: a row too many, or one that does not rise, or an image */
-        static const uint8_t bodies_of_one[3][5] = { { 0xed, 0x05, 0x01, 0x81, 0x01 }, { 0xed, 0x05, 0x01, 0xc1, 0xfa }, { 0xed, 0x05, 0x01, 0xc1, 0xfb } };
+        static const uint8_t bodies_of_one[5][5] = { { 0xed, 0x05, 0x01, 0x81, 0x01 }, { 0xed, 0x05, 0x01, 0xc1, 0xfa }, { 0xed, 0x05, 0x01, 0xc1, 0xfb },
+            { 0x4b, 0x0c, 0x01, 0x81, 0x11 }, { 0x4b, 0x0c, 0x01, 0x81, 0x12 } };   /* the last two of 19 bits, from bit 16 and from 17 on */
         memcpy(bodies[count], PICK(bodies_of_one), 5);
         parts[count].length = 5;
         parts[count].key[0] = one_in(4) ? (uint8_t)any() : 253;
@@ -958,6 +1068,9 @@ static void rework(const uint8_t *image)
         gap = 1 + below(7);
     } else if (what == 6) {
         moved = i;
+    } else if (what == 9) {   /* an odd width off its multiple of 8 */
+        for (i = 0; i < count && !uneven; i++)
+            uneven = make_uneven(bodies[i], parts[i].length);
     } else {   /* a byte of all messages of a body: flags and n; or of one: start, position, SPN */
         unsigned byte = what == 7 ? 3 : below(5), turned = 1u << below(8);
         for (size_t p = 0; p < parts[i].length; p += 5)
@@ -985,6 +1098,8 @@ static void rework(const uint8_t *image)
     }
     reworked++;
     try_image(out, at, "taken apart and changed, by way", what);
+    if (uneven)
+        must_be_damaged(out, at);
 }
 
 /* A box that holds one key, and this in conflict, loads nothing. */
@@ -1001,6 +1116,18 @@ static void load_on_conflict(const uint8_t *image, size_t size)
     load_other(image, size);
 }
 
+/* What a box could save before Req 04: 1519 from bit 0 on, 1517 from 4 on, and the 19 bits of 3147 from 12 on. From 16 on it is an image. */
+static void saved_before(void)
+{
+    uint8_t image[] = { 1, 1, 38, 40, 15, 9, 0, 15, 0, 0xef, 0x05, 0x01, 0x03, 1, 0xed, 0x05, 0x02, 0x03, 5, 0x4b, 0x0c, 0x03, 0x03, 12 + 1 };
+    try_image(image, sizeof image, "with 19 bits from bit 12 on", 0);
+    must_be_damaged(image, sizeof image);
+    image[sizeof image - 1] = 16 + 1;
+    try_image(image, sizeof image, "with 19 bits from bit 16 on", 0);
+    if (plain_other.held != 1)
+        differ("an image with 19 bits from bit 16 on is damaged");
+}
+
 /* The image damaged: every bit of a small one turned, of larger ones a bit of each byte or of some; cut at every length, or at some; bytes added. */
 static void damage(void)
 {
@@ -1011,6 +1138,7 @@ static void damage(void)
     plain_save(&plain, image, size);
     try_image(image, size, "whole", 0);
     load_on_conflict(image, size);
+    saved_before();
     for (unsigned i = 0; i < 60; i++)
         rework(image);
     for (size_t at = below((unsigned)step); at < size; at += step)
@@ -1168,6 +1296,12 @@ static void lay_maps(void)
     }
 }
 
+/* This start, or of an odd width mostly the multiple of 8 at or before it. */
+static unsigned even_for(uint32_t spn, unsigned start)
+{
+    return plain_odd(plain_width(spn)) && !one_in(12) ? start / 8 * 8 : start;
+}
+
 /* Up to sixteen keys of one address that all have one SPN, for answers of many messages. */
 static void set_many(void)
 {
@@ -1186,8 +1320,8 @@ static void set_many(void)
             m->spn[3 - p] = PICK(known);
         while (m->spn[3 - p] == scene_spn);
         m->spn[p] = scene_spn;
-        m->start[1] = below(40);
-        m->start[2] = one_in(4) ? 247 + below(3) : m->start[1] + 24 + below(60);   /* no width is above 24 */
+        m->start[1] = even_for(m->spn[1], below(40));
+        m->start[2] = even_for(m->spn[2], one_in(4) ? 247 + below(3) : m->start[1] + 32 + below(52));   /* no width is above 24 */
         m->proprietary = below(2);
         measure(m);
         m->transport = m->bytes > 8;
@@ -1346,7 +1480,7 @@ static void print_counts(void)
         printf("\n");
     }
     printf("\njudgements: number, of judging, of answer 12\n");
-    for (unsigned j = 0; j <= 8; j++)
+    for (unsigned j = 0; j <= 9; j++)
         printf("  %u %10" PRIu64 " %10" PRIu64 "\n", j, judgements[0][j], judgements[1][j]);
     printf("\ndecisions: pass %" PRIu64 ", block %" PRIu64 "\n", pass_or_block[1], pass_or_block[0]);
     printf("answers to a Parameter Locate, by their messages:");
@@ -1357,6 +1491,8 @@ static void print_counts(void)
         printf(" %" PRIu64, saved[i]);
     printf("\nlongest image %" PRIu64 " bytes; images damaged by a bit %" PRIu64 ", cut %" PRIu64 ", with bytes added %" PRIu64 ", changed in their parts %"
         PRIu64 ", of these and the whole ones still an image %" PRIu64 "; boxes swapped %" PRIu64, longest_image, turned_bits, cuts, longer_images, reworked, still_images, swaps);
+    printf("\nodd widths: numbers packed %" PRIu64 ", others packed into the bits that these skip %" PRIu64 "; judgements 6 that the position before does not earn %" PRIu64
+        "; images damaged by an uneven start %" PRIu64, odd_packed, in_skipped, looked_back, uneven_images);
     printf("\nparameters that the dictionary has not %" PRIu64 "\n", unknown_told);
     printf("states of numbers read: valid %" PRIu64 ", reserved %" PRIu64 ", error %" PRIu64 ", not available %" PRIu64 "\n", states_read[0], states_read[1],
         states_read[2], states_read[3]);

@@ -274,6 +274,34 @@ struct plain_answer plain_forget(struct plain_box *box, unsigned source, unsigne
     return answer(0, 0);
 }
 
+/* ---- "Payload bits": where the bits of a number stand */
+
+/* Req 04: "a width above 8 that isn't a multiple of 8" */
+int plain_odd(unsigned width)
+{
+    return width > 8 && width % 8 != 0;
+}
+
+/* "start + width"; of an odd width "the end of that byte", the "last, partial" one. */
+unsigned plain_end(unsigned start, unsigned width)
+{
+    unsigned end = start + width;
+    if (plain_odd(width))
+        while ((end - start) % 8 != 0)
+            end++;
+    return end;
+}
+
+/* The payload bit of bit i of a number. "Bit i of the parameter's number stands at payload bit start + i"; of an odd width the last byte "is filled from bit 8 downward", the
+   number's top bit being at the top, so these bits are counted back from the end. */
+static unsigned place_of_bit(unsigned start, unsigned width, unsigned i)
+{
+    unsigned in_whole_bytes = width - width % 8;
+    if (!plain_odd(width) || i < in_whole_bytes)
+        return start + i;
+    return plain_end(start, width) - (width - i);
+}
+
 /* ---- "A set and its judgement" */
 
 /* A map, by position from 1: of a set without a contradiction. */
@@ -299,44 +327,50 @@ static struct map map_of(const struct plain_set *set)
     return map;
 }
 
-/* "Bit i of the parameter's number stands at payload bit start + i": whether a parameter has a bit at payload bit p. */
-static int has_bit(const struct map *map, unsigned position, unsigned p)
+/* The bit of a parameter's number that stands at payload bit p, or its width where none does. */
+static unsigned bit_at(const struct map *map, unsigned position, unsigned p)
 {
-    return p >= map->start[position] && p < map->start[position] + map->width[position];
+    unsigned start = map->start[position], width = map->width[position], i = 0;
+    if (p < start || p >= plain_end(start, width))
+        return width;
+    while (i < width && place_of_bit(start, width, i) != p)
+        i++;
+    return i;
 }
 
-/* Whether two parameters share a bit: each bit of the one is asked for in the other. */
+/* Whether two parameters share a bit: for each bit of the one it is asked whether a bit of the other stands there. */
 static int share_a_bit(const struct map *map, unsigned one, unsigned other)
 {
     for (unsigned i = 0; i < map->width[one]; i++)
-        if (has_bit(map, other, map->start[one] + i))
+        if (bit_at(map, other, place_of_bit(map->start[one], map->width[one], i)) < map->width[other])
             return 1;
     return 0;
 }
 
-/* "the larger of 8 and the largest start + width divided by 8, rounded up" */
+/* "the larger of 8 and the largest start + width divided by 8, rounded up", with Req 04's end */
 static unsigned payload_bytes(const struct map *map)
 {
     unsigned bytes = 8;
     for (unsigned p = 1; p <= map->n; p++) {
-        unsigned end = map->start[p] + map->width[p];
+        unsigned end = plain_end(map->start[p], map->width[p]);
         while (8 * bytes < end)
             bytes++;
     }
     return bytes;
 }
 
-/* "The judgement is the first of these that applies, with its lowest position": the judgement, and its position. */
+/* "The judgement is the first of these that applies, with its lowest position": the judgement, and its position. Req 04's 9 is "tested after 5 and before 6". */
 static unsigned judgement_of(const struct plain_set *set, unsigned *position)
 {
+    static const unsigned rules[] = { 2, 3, 4, 5, 9, 6, 7 };
     *position = 0;
     if (in_conflict(set))
         return 1;
     struct map map = map_of(set);
-    for (unsigned rule = 2; rule <= 7; rule++) {
+    for (size_t r = 0; r < sizeof rules / sizeof rules[0]; r++) {
         for (unsigned p = 1; p <= map.n; p++) {
             int applies = 0;
-            switch (rule) {
+            switch (rules[r]) {
             case 2:
                 applies = !map.there[p];
                 break;
@@ -350,17 +384,20 @@ static unsigned judgement_of(const struct plain_set *set, unsigned *position)
             case 5:
                 applies = p > 1 && !(map.start[p] > map.start[p - 1]);
                 break;
+            case 9:
+                applies = plain_odd(map.width[p]) && map.start[p] % 8 != 0;
+                break;
             case 6:
                 for (unsigned q = 1; q < p && !applies; q++)
                     applies = share_a_bit(&map, p, q);
                 break;
             case 7:
-                applies = map.start[p] + map.width[p] > 14280;
+                applies = plain_end(map.start[p], map.width[p]) > 14280;
                 break;
             }
             if (applies) {
                 *position = p;
-                return rule;
+                return rules[r];
             }
         }
     }
@@ -442,9 +479,11 @@ struct plain_answer plain_pack(const struct plain_box *box, unsigned source, uns
     }
     for (unsigned b = 0; b < 8 * bytes; b++) {
         unsigned bit = 1;   /* "All other bits of the L bytes are 1" */
-        for (unsigned p = 1; p <= map.n; p++)
-            if (has_bit(&map, p, b))
-                bit = bits(numbers[p - 1], b - map.start[p], 1);
+        for (unsigned p = 1; p <= map.n; p++) {
+            unsigned i = bit_at(&map, p, b);
+            if (i < map.width[p])
+                bit = bits(numbers[p - 1], i, 1);
+        }
         set_bit(payload, b, bit);
     }
     return answer(0, bytes);
@@ -462,7 +501,7 @@ struct plain_answer plain_read(const struct plain_box *box, unsigned source, uns
     for (unsigned p = 1; p <= map.n; p++) {
         uint32_t value = 0, worth = 1;
         for (unsigned i = 0; i < map.width[p]; i++) {
-            value += get_bit(payload, map.start[p] + i) * worth;
+            value += get_bit(payload, place_of_bit(map.start[p], map.width[p], i)) * worth;
             worth *= 2;
         }
         numbers[p - 1] = value;

@@ -135,6 +135,10 @@ size_t plain_listing(const uint8_t *log, size_t size, char *text, size_t room);
 /* The width of an SPN's parameter, 0 where the dictionary has it not. */
 unsigned plain_width(uint32_t spn);
 
+/* Req 04: whether a width is odd, above 8 and no multiple of 8; and the payload bit after the last one of a parameter, of an odd width the end of its last byte. */
+int plain_odd(unsigned width);
+unsigned plain_end(unsigned start, unsigned width);
+
 /* What an SPN means, and what a number of it is worth: 0 where its state is not valid or the dictionary has not the SPN. */
 struct plain_meaning plain_meaning(uint32_t spn);
 struct plain_scaled plain_scaled(uint32_t spn, uint32_t number);

@@ -5,7 +5,7 @@ use mathlib.Core.Bool.{cond}
 use lib.Dec.{eqb}
 use Rattle.answers.specs.declared.Answer.{Answer}
 use Rattle.answers.specs.declared.Judgement.{Judgement}
-use Rattle.answers.specs.declared.Judgement.the-variants.{Usable, Conflict, Missing, Unknown, Repeated, NotAbove, Overlaps, Beyond, Transport}
+use Rattle.answers.specs.declared.Judgement.the-variants.{Usable, Conflict, Missing, Unknown, Repeated, NotAbove, Uneven, Overlaps, Beyond, Transport}
 use Rattle.answers.specs.Answers.{Judged, saidOf, Said, inNumbers}
 
 -- the case of a number and a position
@@ -17,7 +17,8 @@ caseOf j =
     (cond (eqb (j .number) 3) (Unknown (j .position))
     (cond (eqb (j .number) 4) (Repeated (j .position))
     (cond (eqb (j .number) 5) (NotAbove (j .position))
-    (cond (eqb (j .number) 6) (Overlaps (j .position)) (cond (eqb (j .number) 7) (Beyond (j .position)) Transport)))))))
+    (cond (eqb (j .number) 9) (Uneven (j .position))
+    (cond (eqb (j .number) 6) (Overlaps (j .position)) (cond (eqb (j .number) 7) (Beyond (j .position)) Transport))))))))
 
 back : (j : Judgement) → caseOf (saidOf j) ≡ j
 back Usable = refl
@@ -26,6 +27,7 @@ back (Missing p) = refl
 back (Unknown p) = refl
 back (Repeated p) = refl
 back (NotAbove p) = refl
+back (Uneven p) = refl
 back (Overlaps p) = refl
 back (Beyond p) = refl
 back Transport = refl

@@ -5,7 +5,7 @@ use Prim.Native.Nat.{ℕ}
 use mathlib.Core.List.{List}
 use Rattle.answers.specs.declared.Answer.{Answer}
 use Rattle.answers.specs.declared.Judgement.{Judgement}
-use Rattle.answers.specs.declared.Judgement.the-variants.{Usable, Conflict, Missing, Unknown, Repeated, NotAbove, Overlaps, Beyond, Transport}
+use Rattle.answers.specs.declared.Judgement.the-variants.{Usable, Conflict, Missing, Unknown, Repeated, NotAbove, Uneven, Overlaps, Beyond, Transport}
 
 -- a judgement: its number, and the position it names, 0 where it names none (01, "A set and its judgement")
 pub record Judged : Type 0 where
@@ -16,7 +16,8 @@ abbrev pub at : ℕ → ℕ → Judged
 at n p = record { number = n; position = p }
 
 -- 01's list: 1 in conflict, 2 a position is missing, 3 its SPN is not in the dictionary, 4 its SPN stands at a lower position too, 5 its start is
--- not above the one before, 6 it shares a bit with an earlier one, 7 start + width above 14,280, 8 the transport flag is wrong, 0 usable
+-- not above the one before, 6 it shares a bit with an earlier one, 7 start + width above 14,280, 8 the transport flag is wrong, 0 usable;
+-- 02, Req 04: 9 its start is not a multiple of 8
 abbrev pub saidOf : Judgement → Judged
 saidOf Usable = at 0 0
 saidOf Conflict = at 1 0
@@ -24,6 +25,7 @@ saidOf (Missing p) = at 2 p
 saidOf (Unknown p) = at 3 p
 saidOf (Repeated p) = at 4 p
 saidOf (NotAbove p) = at 5 p
+saidOf (Uneven p) = at 9 p
 saidOf (Overlaps p) = at 6 p
 saidOf (Beyond p) = at 7 p
 saidOf Transport = at 8 0

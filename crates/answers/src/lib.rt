@@ -3,7 +3,7 @@
 ghost use mathlib.Core.Path.{_≡_};
 ghost use Rattle.answers.specs.Answers.{saidOf, inNumbers, plain, detailed, judged, unusable};
 
-// What a map is worth (01, "A set and its judgement"); a case that concerns a position carries it.
+// What a map is worth (01, "A set and its judgement"; 02, Req 04), in the order of the tests; a case that concerns a position carries it.
 pub enum Judgement {
     Usable,
     Conflict,
@@ -11,6 +11,7 @@ pub enum Judgement {
     Unknown(u8),
     Repeated(u8),
     NotAbove(u8),
+    Uneven(u8),
     Overlaps(u8),
     Beyond(u8),
     Transport,
@@ -23,7 +24,7 @@ pub struct Answer {
     pub judgement: Judgement,
 }
 
-// 01's number of a judgement.
+// The number of a judgement in 01 and 02.
 pub fn number_of(j: Judgement) -> u8
     ensures { λ r. ⌜ r ≡ saidOf j .number ⌝ }
 {
@@ -34,6 +35,7 @@ pub fn number_of(j: Judgement) -> u8
         Judgement::Unknown(_) => 3,
         Judgement::Repeated(_) => 4,
         Judgement::NotAbove(_) => 5,
+        Judgement::Uneven(_) => 9,
         Judgement::Overlaps(_) => 6,
         Judgement::Beyond(_) => 7,
         Judgement::Transport => 8,
@@ -51,6 +53,7 @@ pub fn position_of(j: Judgement) -> u8
         Judgement::Unknown(p) => p,
         Judgement::Repeated(p) => p,
         Judgement::NotAbove(p) => p,
+        Judgement::Uneven(p) => p,
         Judgement::Overlaps(p) => p,
         Judgement::Beyond(p) => p,
         Judgement::Transport => 0,

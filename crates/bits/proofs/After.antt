@@ -1,7 +1,7 @@
 -- Laws of `bitAfter`: bits that are laid at places. Assumes nothing.
 use mathlib.Core.Path.{_≡_, refl, ap}
-use Prim.Native.Nat.{ℕ, zero, suc, _<_}
-use native.Mathlib.Nat.{not-suc-le-zero}
+use Prim.Native.Nat.{ℕ, zero, suc, _+_, _<_}
+use native.Mathlib.Nat.{not-suc-le-zero, add-zero, add-suc}
 use native.Mathlib.Decide.{ℕ-discrete}
 use native.Mathlib.Omega.{arith}
 use borrow.Author.Tests.{eq-eqb, ne-eqb}
@@ -48,3 +48,20 @@ after-one at g (suc k) p b x h =
       | yes e ↦ rw (any-more, eq-eqb p (at k) e, or-true (any (λ i. eqb p (at i)) k)) (h k (omega arith) e)
       | no n ↦ rw (any-more, ne-eqb p (at k) n, or-false (any (λ i. eqb p (at i)) k)) (after-one at g k p b x (λ i l. h i (omega arith)))
     ]
+
+-- the same bits at the same places
+pub after-same : (at g at′ g′ : ℕ → ℕ) (k p b : ℕ) → ((i : ℕ) → i < k → at i ≡ at′ i) → ((i : ℕ) → i < k → g i ≡ g′ i)
+    → bitAfter at g k p b ≡ bitAfter at′ g′ k p b
+unfolding bitAfter
+after-same at g at′ g′ zero p b h l = refl
+after-same at g at′ g′ (suc k) p b h l =
+    let x = h k (omega arith) in
+    let y = l k (omega arith) in
+    let z = after-same at g at′ g′ k p b (λ i m. h i (omega arith)) (λ i m. l i (omega arith)) in
+    λ t. cond (eqb p (x t)) (y t) (z t)
+
+-- n bits, and m more behind them
+pub after-add : (at g : ℕ → ℕ) (n m p b : ℕ) → bitAfter at g (n + m) p b ≡ bitAfter (λ i. at (n + i)) (λ i. g (n + i)) m p (bitAfter at g n p b)
+unfolding bitAfter
+after-add at g n zero p b = rw add-zero
+after-add at g n (suc m) p b = rw (add-suc, ← after-add at g n m p b)

@@ -1,11 +1,12 @@
 // The bits of payload bytes (01, "Payload bits"): a parameter's number laid at its places, and read from them. This room knows bytes, and one start, width
 // and number at a time.
 ghost use mathlib.Core.Path.{_≡_};
-ghost use mathlib.Core.Bool.{cond};
+ghost use mathlib.Core.Bool.{cond, true};
 ghost use Prim.Native.Nat.{ℕ, _+_, _-_, _*_, _/_, _%_, _^_, _≤_, _<_};
 ghost use lib.Dec.{eqb};
 ghost use lib.ListN.{length};
-ghost use Rattle.bits.specs.Bits.{bit, bitAt, bitAfter, liesIn, withNumber, numberIn, runAt, masked};
+ghost use Rattle.places.specs.Place.{odd, place, endOf};
+ghost use Rattle.bits.specs.Bits.{bit, bitAt, bitAfter, liesIn, withNumber, readNumber, numberIn, runAt, masked};
 
 // Whether a parameter's number has 32 bits at most, and all its places lie in n bytes.
 fn lies_in(n: usize, start: u32, width: u32) -> bool
@@ -47,22 +48,45 @@ fn ones(n: u32) -> u64
 }
 
 // How many bytes a run of n payload bits touches: at most five.
-fn touched(start: u32, n: u32) -> usize
+fn touched(start: u64, n: u32) -> usize
     requires { ⌜ n ≤ 32 ⌝ }
     ensures { λ r. ⌜ r ≡ (start % 8 + n + 7) / 8 ⌝ }
 {
-    ((start % 8 + n + 7) / 8) as usize
+    ((start % 8 + n as u64 + 7) / 8) as usize
 }
 
 // Lays the low `width` bits of value at payload bit `start` on.
-fn put_run(out: &mut [u8], start: u32, width: u32, value: u32)
+fn put_run(out: &mut [u8], start: u64, width: u32, value: u32)
     requires { ⌜ (width ≤ 32) × (start + width ≤ 8 * length (now out)) ⌝ }
     ensures { λ _. ⌜ ((p : ℕ) → bitAt (now (out .exit)) p ≡ bitAfter (λ i. start + i) (bit value) width p (bitAt (now (out .entry)) p)) ⌝ }
 {
-    let off = start % 8;
+    let off = (start % 8) as u32;
     let mask = ones(width) << off;
     let bits = (value as u64) << off;
     put_bytes(out, (start / 8) as usize, touched(start, width), mask, bits);
+}
+
+// Lays a number of an odd width: the run of its whole bytes, and that of the bits left over, above those it skips.
+fn lay_odd(out: &mut [u8], start: u32, width: u32, value: u32)
+    requires { ⌜ (odd width ≡ true) × (width ≤ 32) × (endOf start width ≤ 8 * length (now out)) ⌝ }
+    ensures { λ _. ⌜ ((p : ℕ) → bitAt (now (out .exit)) p ≡ bitAfter (place start width) (bit value) width p (bitAt (now (out .entry)) p)) ⌝ }
+{
+    let whole = width / 8 * 8;
+    let left = places::left_bit(start, width);
+    put_run(out, start as u64, whole, value);
+    put_run(out, left, width - whole, value >> whole);
+}
+
+// Lays a number that lies in the bytes at its places.
+fn lay(out: &mut [u8], start: u32, width: u32, value: u32)
+    requires { ⌜ (width ≤ 32) × (endOf start width ≤ 8 * length (now out)) ⌝ }
+    ensures { λ _. ⌜ ((p : ℕ) → bitAt (now (out .exit)) p ≡ bitAfter (place start width) (bit value) width p (bitAt (now (out .entry)) p)) ⌝ }
+{
+    if places::is_odd(width) {
+        lay_odd(out, start, width, value);
+        return;
+    }
+    put_run(out, start as u64, width, value);
 }
 
 // Lays a parameter's number at its places; where it does not lie in the bytes, nothing is laid.
@@ -70,7 +94,7 @@ pub fn put(out: &mut [u8], start: u32, width: u32, value: u32)
     ensures { λ _. ⌜ now (out .exit) ≡ withNumber (now (out .entry)) start width value ⌝ }
 {
     if lies_in(out.len(), start, width) {
-        put_run(out, start, width, value);
+        lay(out, start, width, value);
     }
 }
 
@@ -89,12 +113,35 @@ fn get_bytes(payload: &[u8], k: usize, n: usize) -> u64
 }
 
 // The number whose bits are the `width` payload bits from `start` on.
-fn get_run(payload: &[u8], start: u32, width: u32) -> u32
+fn get_run(payload: &[u8], start: u64, width: u32) -> u32
     requires { ⌜ (width ≤ 32) × (start + width ≤ 8 * length (now payload)) ⌝ }
     ensures { λ r. ⌜ r ≡ runAt (now (payload .entry)) start width ⌝ }
 {
     let sum = get_bytes(payload, (start / 8) as usize, touched(start, width));
-    ((sum >> (start % 8)) & ones(width)) as u32
+    ((sum >> (start % 8) as u32) & ones(width)) as u32
+}
+
+// A number of an odd width: the run of its whole bytes, and above it that of the bits left over.
+fn fetch_odd(payload: &[u8], start: u32, width: u32) -> u32
+    requires { ⌜ (odd width ≡ true) × (width ≤ 32) × (endOf start width ≤ 8 * length (now payload)) ⌝ }
+    ensures { λ r. ⌜ r ≡ readNumber (now (payload .entry)) start width ⌝ }
+{
+    let whole = width / 8 * 8;
+    let left = places::left_bit(start, width);
+    let low = get_run(payload, start as u64, whole);
+    let high = get_run(payload, left, width - whole);
+    low + (high << whole)
+}
+
+// A number that lies in the payload, from its places.
+fn fetch(payload: &[u8], start: u32, width: u32) -> u32
+    requires { ⌜ (width ≤ 32) × (endOf start width ≤ 8 * length (now payload)) ⌝ }
+    ensures { λ r. ⌜ r ≡ readNumber (now (payload .entry)) start width ⌝ }
+{
+    if places::is_odd(width) {
+        return fetch_odd(payload, start, width);
+    }
+    get_run(payload, start as u64, width)
 }
 
 // A parameter's number, from its places; 0 where it does not lie in the payload.
@@ -102,7 +149,7 @@ pub fn get(payload: &[u8], start: u32, width: u32) -> u32
     ensures { λ r. ⌜ r ≡ numberIn (now (payload .entry)) start width ⌝ }
 {
     if lies_in(payload.len(), start, width) {
-        return get_run(payload, start, width);
+        return fetch(payload, start, width);
     }
     0
 }

@@ -21,7 +21,7 @@ use Rattle.meaning.specs.declared.Scaled.{Scaled}
 
 -- the version of the exported calls: one more when a caller must be built again or changed
 abbrev pub version : ℕ
-version = 3
+version = 4
 
 -- an answer: its four fields are the four of `Said`
 abbrev pub saidTo : Told → Said

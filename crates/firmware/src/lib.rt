@@ -219,7 +219,7 @@ fn tally_of(log: Log) -> Tally
 pub extern "C" fn yendrolf_version() -> u32
     ensures { λ r. ⌜ r ≡ version ⌝ }
 {
-    3
+    4
 }
 
 // ---- the learned table

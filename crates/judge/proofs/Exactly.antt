@@ -1,16 +1,16 @@
 -- `judge` and `usable` are 01's sentences (specs/Usable.antt), both ways, for any dictionary and any map. `judged-exactly`: the judgement is k at p exactly
 -- where rule k is the first of the list that applies and p its lowest position; `judged-none`: it is 0 exactly where no rule applies; `usable-exactly`.
 -- Assumes nothing.
-use Prim.Native.Nat.{ℕ, zero, suc, _+_, _≤_, _<_}
+use Prim.Native.Nat.{ℕ, zero, suc, _+_, _%_, _≤_, _<_}
 use mathlib.Core.Path.{_≡_, refl, sym, ap, _∙_}
 use mathlib.Core.Logic.{_⊎_, inl, inr, ⊎-elim, _↔_}
-use mathlib.Core.Bool.{Bool, true, false, cond}
+use mathlib.Core.Bool.{Bool, true, false, cond, not, _&&_, and-eq-true-iff}
 use mathlib.Core.Option.{Option, none, some, Option·none-ne-some, Option·some-injective}
 use mathlib.Core.List.{[], _∷_}
 use native.Mathlib.Nat.{not-suc-le-zero}
-use native.Mathlib.Decide.{decLt}
+use native.Mathlib.Decide.{decLt, ℕ-discrete}
 use native.Mathlib.Omega.{arith}
-use borrow.Author.Tests.{eqb-true, eq-eqb, leb-true, le-leb, ltb-true, lt-ltb}
+use borrow.Author.Tests.{eqb-true, eqb-false, eq-eqb, ne-eqb, not-true, leb-true, le-leb, ltb-true, lt-ltb}
 use lib.Dec.{eqb}
 use Rattle.answers.specs.Answers.{Judged, at}
 use Rattle.message.specs.declared.Head.{Head}
@@ -19,12 +19,12 @@ use Rattle.words.specs.Lists.{tabulate}
 use Rattle.words.specs.First.{first, any, lowest}
 use Rattle.words.proofs.Lowest.{any-at, any-found}
 use Rattle.words.proofs.Tests.{test, never}
-use Rattle.judge.proofs.Rules.{Nowhere, Finds, Decides, foremost, rule-passed, rule-next, one-first, finds}
-use Rattle.places.specs.Place.{meet, place, endOf, sharesBit, endTo, bytesFor, sizeOf}
-use Rattle.places.proofs.Meet.{meet-at, meet-none}
+use Rattle.judge.proofs.Rules.{Finds, Decides, rule-passed, rule-next, none-first, one-first, finds}
+use Rattle.places.specs.Place.{odd, place, endOf, sharesBit, endTo, bytesFor, sizeOf}
+use Rattle.places.proofs.Meet.{meet-at, meet-none, meet-found}
 use Rattle.maps.specs.Maps.{Map, Nothing, Conflict, Held}
-use Rattle.judge.specs.Judge.{Param, withWidth, measured, isNone, spnAt, startAt, widthAt, missing, unknown, repeated, notAbove, overlaps, beyond, wrongTransport, firstNamed, judgeOver, judge, usable, lengthOf}
-use Rattle.judge.specs.Usable.{StandsAt, ConflictAt, MissingAt, UnknownAt, RepeatedAt, NotAboveAt, OverlapsAt, BeyondAt, TransportAt, ruleList, Applies, FirstApplies, Usable}
+use Rattle.judge.specs.Judge.{Param, withWidth, measured, isNone, spnAt, startAt, widthAt, missing, unknown, repeated, notAbove, uneven, overlaps, beyond, wrongTransport, firstNamed, judgeOver, judge, usable, lengthOf}
+use Rattle.judge.specs.Usable.{StandsAt, ConflictAt, MissingAt, UnknownAt, RepeatedAt, NotAboveAt, UnevenAt, OverlapsAt, BeyondAt, TransportAt, ruleList, Nowhere, NoneApplies, FirstApplies, Usable}
 
 -- one that passes a test
 any-some : (t : ℕ → Bool) (n : ℕ) → any t n ≡ true → (i : ℕ) × (i < n) × (t i ≡ true)
@@ -34,11 +34,8 @@ any-some t n e = let (l, p) = any-found t n e in (first t n, l, p)
 
 -- bits shared, as places
 shares-some : (s1 w1 s2 w2 : ℕ) → sharesBit s1 w1 s2 w2 ≡ true → (i j : ℕ) × (i < w1) × (j < w2) × (place s1 w1 i ≡ place s2 w2 j)
-unfolding sharesBit meet
-shares-some s1 w1 s2 w2 e =
-    let (i, l, f) = any-some _ w1 e in
-    let (j, m, g) = any-some _ w2 f in
-    (i, j, l, m, eqb-true _ _ g)
+unfolding sharesBit
+shares-some s1 w1 s2 w2 = meet-found (place s1 w1) w1 (place s2 w2) w2
 
 shares-at : (s1 w1 s2 w2 i j : ℕ) → i < w1 → j < w2 → place s1 w1 i ≡ place s2 w2 j → sharesBit s1 w1 s2 w2 ≡ true
 unfolding sharesBit
@@ -47,6 +44,13 @@ shares-at s1 w1 s2 w2 i j l m e = meet-at (place s1 w1) w1 (place s2 w2) w2 i j 
 pub shares-no : (s1 w1 s2 w2 : ℕ) → ((i j : ℕ) → i < w1 → j < w2 → place s1 w1 i ≡ place s2 w2 j → ⊥) → sharesBit s1 w1 s2 w2 ≡ false
 unfolding sharesBit
 shares-no s1 w1 s2 w2 = meet-none (place s1 w1) w1 (place s2 w2) w2
+
+-- an odd width's start, as it is tested and as it is said
+uneven-is : (s w : ℕ) → ((odd w && not (eqb (s % 8) 0)) ≡ true) ↔ ((odd w ≡ true) × (s % 8 ≡ 0 → ⊥))
+uneven-is s w = (
+  λ e. let (a, b) = and-eq-true-iff (odd w) (not (eqb (s % 8) 0)) .0 e in (a, eqb-false (s % 8) 0 (not-true _ b)),
+  λ (a, b). rw (a, ne-eqb (s % 8) 0 b),
+)
 
 -- the flag, as it is tested and as it is said
 wrong-is : (t : Bool) (l : ℕ) → (wrongTransport t l ≡ true) ↔ (((t ≡ true) × (l ≡ 8)) ⊎ ((t ≡ false) × (8 < l)))
@@ -117,6 +121,12 @@ module _ (widthOf : ℕ → ℕ) (h : Head) (places : ℕ → Option Place) wher
             let r : q ≡ suc i = omega arith in
             rw (s .2, rw r at (v .2)) (le-leb _ _ l)
 
+    uneven-finds : Finds (UnevenAt widthOf map) (lowest (uneven (startAt ps) (widthAt ps)) (h .n))
+    uneven-finds =
+        finds _ (h .n) (UnevenAt widthOf map)
+        (λ i l e. let (x, q) = there i l in (x, (omega arith, l, q), uneven-is _ _ .0 (rw q at e)))
+        (λ (x, s, z). omega (arith, s .0)) (λ i (x, s, z). (s .1, rw (s .2) (uneven-is _ _ .1 z)))
+
     overlaps-finds : Finds (OverlapsAt widthOf map) (lowest (overlaps (startAt ps) (widthAt ps)) (h .n))
     overlaps-finds = finds _ (h .n) (OverlapsAt widthOf map) (λ i l e. found i l (any-some _ i e)) (λ (x, s, w). omega (arith, s .0)) (λ i (x, s, (q, y, v, l, b)). (s .1, back i x s q y v l b))
       where
@@ -139,44 +149,44 @@ module _ (widthOf : ℕ → ℕ) (h : Head) (places : ℕ → Option Place) wher
         (λ (x, s, z). omega (arith, s .0)) (λ i (x, s, z). (s .1, rw (s .2) (lt-ltb 14280 _ z)))
 
   -- 8 or 0
-  transport-judges : Decides 7 (TransportAt widthOf map ∷ []) (firstNamed [] (at (cond (wrongTransport (h .transport) (lengthOf widthOf map)) 8 0) 0))
+  transport-judges : Decides ((8, TransportAt widthOf map) ∷ []) (firstNamed [] (at (cond (wrongTransport (h .transport) (lengthOf widthOf map)) 8 0) 0))
   unfolding firstNamed
-  transport-judges = test (wrongTransport (h .transport) (lengthOf widthOf map)) (λ y. rw y (inr (0, refl, wrong y))) (λ y. rw y (inl (refl, right y)))
+  transport-judges = test (wrongTransport (h .transport) (lengthOf widthOf map)) (λ y. rw y (record { said = inr (omega arith, wrong y) })) (λ y. rw y (record { said = inl (refl, (right y, tt)) }))
     where
-      wrong : wrongTransport (h .transport) (lengthOf widthOf map) ≡ true → FirstApplies (TransportAt widthOf map ∷ []) 1 0
-      wrong y = foremost (wrong-is (h .transport) (lengthOf widthOf map) .0 y, refl) (λ q l. absurd (not-suc-le-zero l))
+      wrong : wrongTransport (h .transport) (lengthOf widthOf map) ≡ true → FirstApplies ((8, TransportAt widthOf map) ∷ []) 8 0
+      wrong y = inl (refl, (wrong-is (h .transport) (lengthOf widthOf map) .0 y, refl), λ q l. absurd (not-suc-le-zero l))
 
-      right : wrongTransport (h .transport) (lengthOf widthOf map) ≡ false → (k p : ℕ) → Applies (TransportAt widthOf map ∷ []) k p → ⊥
-      right y zero p a = a
-      right y (suc zero) p a = never (wrong-is (h .transport) (lengthOf widthOf map) .1 (a .0)) y
-      right y (suc (suc k)) p a = a
+      right : wrongTransport (h .transport) (lengthOf widthOf map) ≡ false → Nowhere (TransportAt widthOf map)
+      right y p a = never (wrong-is (h .transport) (lengthOf widthOf map) .1 (a .0)) y
 
-  held-judges : Decides 0 (ruleList widthOf map) (judge widthOf map)
+  held-judges : Decides (ruleList widthOf map) (judge widthOf map)
   unfolding judgeOver
   held-judges =
-      rule-passed 0 (ConflictAt map) _ (judge widthOf map) (λ q (e, z). let y : _≡_ {A = ℕ} 0 1 = cc in omega arith)
-      (rule-next 1 (MissingAt map) _ _ _ _ missing-finds
-      (λ here. rule-next 2 (UnknownAt widthOf map) _ _ _ _ (unknown-finds here)
-      (λ _. rule-next 3 (RepeatedAt map) _ _ _ _ (repeated-finds here)
-      (λ _. rule-next 4 (NotAboveAt map) _ _ _ _ (not-above-finds here)
-      (λ _. rule-next 5 (OverlapsAt widthOf map) _ _ _ _ (overlaps-finds here)
-      (λ _. rule-next 6 (BeyondAt widthOf map) _ _ _ _ (beyond-finds here) (λ _. transport-judges)))))))
+      rule-passed 1 (ConflictAt map) _ (judge widthOf map) (λ q (e, z). let y : _≡_ {A = ℕ} 0 1 = cc in omega arith)
+      (rule-next 2 (MissingAt map) _ _ _ _ (omega arith) missing-finds
+      (λ here. rule-next 3 (UnknownAt widthOf map) _ _ _ _ (omega arith) (unknown-finds here)
+      (λ _. rule-next 4 (RepeatedAt map) _ _ _ _ (omega arith) (repeated-finds here)
+      (λ _. rule-next 5 (NotAboveAt map) _ _ _ _ (omega arith) (not-above-finds here)
+      (λ _. rule-next 9 (UnevenAt widthOf map) _ _ _ _ (omega arith) (uneven-finds here)
+      (λ _. rule-next 6 (OverlapsAt widthOf map) _ _ _ _ (omega arith) (overlaps-finds here)
+      (λ _. rule-next 7 (BeyondAt widthOf map) _ _ _ _ (omega arith) (beyond-finds here) (λ _. transport-judges))))))))
 
 -- ---- of any map
 
 module _ (widthOf : ℕ → ℕ) where
-  judges : (m : Map) → Decides 0 (ruleList widthOf m) (judge widthOf m)
+  judges : (m : Map) → Decides (ruleList widthOf m) (judge widthOf m)
   unfolding tabulate endTo sizeOf bytesFor
   judges Nothing =
-      rule-passed 0 _ _ _ (λ q (e, z). let y : _≡_ {A = ℕ} 0 1 = cc in omega arith)
-      (rule-passed 1 _ _ _ (λ q a. omega arith)
-      (rule-passed 2 _ _ _ (λ q (x, s, z). omega arith)
-      (rule-passed 3 _ _ _ (λ q (x, s, z). omega arith)
-      (rule-passed 4 _ _ _ (λ q (x, s, z). omega arith)
-      (rule-passed 5 _ _ _ (λ q (x, s, z). omega arith)
-      (rule-passed 6 _ _ _ (λ q (x, s, z). omega arith)
-      (rule-passed 7 _ _ _ (λ q (w, z). ⊎-elim (λ (e, y). never e refl) (λ (e, y). omega arith) w) (inl (refl, λ k p a. a)))))))))
-  judges Conflict = inr (0, refl, foremost (refl, refl) (λ q l. absurd (not-suc-le-zero l)))
+      rule-passed 1 (ConflictAt Nothing) _ _ (λ q (e, z). let y : _≡_ {A = ℕ} 0 1 = cc in omega arith)
+      (rule-passed 2 (MissingAt Nothing) _ _ (λ q a. omega arith)
+      (rule-passed 3 (UnknownAt widthOf Nothing) _ _ (λ q (x, s, z). omega arith)
+      (rule-passed 4 (RepeatedAt Nothing) _ _ (λ q (x, s, z). omega arith)
+      (rule-passed 5 (NotAboveAt Nothing) _ _ (λ q (x, s, z). omega arith)
+      (rule-passed 9 (UnevenAt widthOf Nothing) _ _ (λ q (x, s, z). omega arith)
+      (rule-passed 6 (OverlapsAt widthOf Nothing) _ _ (λ q (x, s, z). omega arith)
+      (rule-passed 7 (BeyondAt widthOf Nothing) _ _ (λ q (x, s, z). omega arith)
+      (rule-passed 8 (TransportAt widthOf Nothing) _ _ (λ q (w, z). ⊎-elim (λ (e, y). never e refl) (λ (e, y). omega arith) w) (record { said = inl (refl, tt) })))))))))
+  judges Conflict = record { said = inr (omega arith, inl (refl, (refl, refl), λ q l. absurd (not-suc-le-zero l))) }
   judges (Held h places) = held-judges widthOf h places
 
   -- the judgement is k at p exactly where rule k is the first that applies and p the lowest position that it applies to
@@ -185,25 +195,24 @@ module _ (widthOf : ℕ → ℕ) where
     where
       there : judge widthOf m ≡ at k p → FirstApplies (ruleList widthOf m) k p
       there e = ⊎-elim (λ (z, clear). absurd (omega (arith, ap (λ (j : Judged). j .number) (sym z ∙ e))))
-          (λ (i, q, f). let r : suc i ≡ k = omega (arith, q, ap (λ (j : Judged). j .number) e) in rw (r, ap (λ (j : Judged). j .position) e) at f)
-          (judges m)
+          (λ (l, f). rw (ap (λ (j : Judged). j .number) e, ap (λ (j : Judged). j .position) e) at f)
+          (judges m .said)
 
       back : FirstApplies (ruleList widthOf m) k p → judge widthOf m ≡ at k p
-      back f = ⊎-elim (λ (z, clear). absurd (clear k p (f .applies)))
-          (λ (i, q, g). let (a, b) = one-first (ruleList widthOf m) (suc i) (judge widthOf m .position) k p g f in
-          let r : judge widthOf m .number ≡ k = omega (arith, q, a) in
-          λ t. at (r t) (b t))
-          (judges m)
+      back f = ⊎-elim (λ (z, clear). absurd (none-first (ruleList widthOf m) k p clear f))
+          (λ (_, g). let (a, b) = one-first (ruleList widthOf m) (judge widthOf m .number) (judge widthOf m .position) k p g f in
+          λ t. at (a t) (b t))
+          (judges m .said)
 
   -- it is 0 exactly where no rule applies to any position; that names none
-  pub judged-none : (m : Map) → (judge widthOf m ≡ at 0 0) ↔ ((k p : ℕ) → Applies (ruleList widthOf m) k p → ⊥)
+  pub judged-none : (m : Map) → (judge widthOf m ≡ at 0 0) ↔ NoneApplies (ruleList widthOf m)
   judged-none m = (there, back)
     where
-      there : judge widthOf m ≡ at 0 0 → (k p : ℕ) → Applies (ruleList widthOf m) k p → ⊥
-      there e = ⊎-elim (λ (z, clear). clear) (λ (i, q, f). absurd (omega (arith, q, ap (λ (j : Judged). j .number) e))) (judges m)
+      there : judge widthOf m ≡ at 0 0 → NoneApplies (ruleList widthOf m)
+      there e = ⊎-elim (λ (z, clear). clear) (λ (l, f). absurd (omega (arith, l, ap (λ (j : Judged). j .number) e))) (judges m .said)
 
-      back : ((k p : ℕ) → Applies (ruleList widthOf m) k p → ⊥) → judge widthOf m ≡ at 0 0
-      back clear = ⊎-elim (λ (z, _). z) (λ (i, q, f). absurd (clear (suc i) (judge widthOf m .position) (f .applies))) (judges m)
+      back : NoneApplies (ruleList widthOf m) → judge widthOf m ≡ at 0 0
+      back clear = ⊎-elim (λ (z, _). z) (λ (_, f). absurd (none-first (ruleList widthOf m) _ _ clear f)) (judges m .said)
 
 -- ---- usable
 
@@ -214,23 +223,27 @@ the (some x) = x
 
 module _ (widthOf : ℕ → ℕ) where
   -- where no rule applies to a map that is held
-  clear-usable : (h : Head) (places : ℕ → Option Place) → ((k p : ℕ) → Applies (ruleList widthOf (Held h places)) k p → ⊥) → Usable widthOf (Held h places)
+  clear-usable : (h : Head) (places : ℕ → Option Place) → NoneApplies (ruleList widthOf (Held h places)) → Usable widthOf (Held h places)
   unfolding the
-  clear-usable h places clear = record {
+  clear-usable h places (r1, (r2, (r3, (r4, (r5, (r9, (r6, (r7, (r8, end))))))))) = record {
     head = h;
     places = places;
     held = refl;
     it = it;
     present = present;
-    known = λ p a b. elim (decLt 0 (widthOf (it p .spn))) [ yes l ↦ l | no l ↦ absurd (clear 3 p (it p, (a, b, present p a b), omega arith)) ];
-    once = λ q p a l b e. clear 4 p (it p, stands p (omega arith) b, (q, it q, stands q a (omega arith), l, e));
+    known = λ p a b. elim (decLt 0 (widthOf (it p .spn))) [ yes l ↦ l | no l ↦ absurd (r3 p (it p, (a, b, present p a b), omega arith)) ];
+    once = λ q p a l b e. r4 p (it p, stands p (omega arith) b, (q, it q, stands q a (omega arith), l, e));
     rises = λ q p a e b. elim (decLt (it q .start) (it p .start)) [
       | yes l ↦ l
-      | no l ↦ absurd (clear 5 p (it p, stands p (omega arith) b, (q, it q, stands q a (omega arith), e, omega arith)))
+      | no l ↦ absurd (r5 p (it p, stands p (omega arith) b, (q, it q, stands q a (omega arith), e, omega arith)))
     ];
-    apart = λ q p a l b i j x y e. clear 6 p (it p, stands p (omega arith) b, (q, it q, stands q a (omega arith), l, (i, j, x, y, e)));
+    even = λ p a b o. elim (ℕ-discrete (it p .start % 8) 0) [
+      | yes e ↦ e
+      | no e ↦ absurd (r9 p (it p, stands p a b, (o, e)))
+    ];
+    apart = λ q p a l b i j x y e. r6 p (it p, stands p (omega arith) b, (q, it q, stands q a (omega arith), l, (i, j, x, y, e)));
     within = λ p a b. elim (decLt 14280 (endOf (it p .start) (widthOf (it p .spn)))) [
-      | yes l ↦ absurd (clear 7 p (it p, stands p a b, l))
+      | yes l ↦ absurd (r7 p (it p, stands p a b, l))
       | no l ↦ omega arith
     ];
     flag = flag (h .transport) refl;
@@ -243,7 +256,7 @@ module _ (widthOf : ℕ → ℕ) where
       present p a b = go (places p) refl
         where
           go : (o : Option Place) → places p ≡ o → o ≡ some (the o)
-          go none e = absurd (clear 2 p (a, b, e))
+          go none e = absurd (r2 p (a, b, e))
           go (some x) e = refl
 
       stands : (p : ℕ) → 1 ≤ p → p ≤ h .n → StandsAt (Held h places) p (the (places p))
@@ -253,39 +266,54 @@ module _ (widthOf : ℕ → ℕ) where
       flag true e = (
         λ _. elim (decLt 8 (lengthOf widthOf (Held h places))) [
           | yes l ↦ l
-          | no l ↦ absurd (clear 8 0 (inl (e, omega (arith, size-least widthOf (Held h places))), refl))
+          | no l ↦ absurd (r8 0 (inl (e, omega (arith, size-least widthOf (Held h places))), refl))
         ],
         λ _. e,
       )
-      flag false e = (λ f. never f e, λ l. absurd (clear 8 0 (inr (e, l), refl)))
+      flag false e = (λ f. never f e, λ l. absurd (r8 0 (inr (e, l), refl)))
 
   -- and the other way
   module _ (m : Map) (u : Usable widthOf m) where
     same : (p : ℕ) (x : Place) → StandsAt (Held (u .head) (u .places)) p x → x ≡ u .it p
     same p x (a, b, e) = Option·some-injective _ _ (sym e ∙ u .present p a b)
 
-    usable-clear : (k p : ℕ) → Applies (ruleList widthOf (Held (u .head) (u .places))) k p → ⊥
-    usable-clear zero p a = a
-    usable-clear (suc zero) p (e, z) = let y : _≡_ {A = ℕ} 0 1 = cc in omega arith
-    usable-clear (suc (suc zero)) p (a, b, e) = Option·none-ne-some (u .it p) (sym e ∙ u .present p a b)
-    usable-clear (suc (suc (suc zero))) p (x, s, z) = omega (arith, rw (same p x s) at z, u .known p (s .0) (s .1))
-    usable-clear (suc (suc (suc (suc zero)))) p (x, s, (q, y, v, l, e)) = u .once q p (v .0) l (s .1) (rw (same p x s, same q y v) at e)
-    usable-clear (suc (suc (suc (suc (suc zero))))) p (x, s, (q, y, v, e, l)) =
-        omega (arith, u .rises q p (v .0) e (s .1), rw (same p x s, same q y v) at l)
-    usable-clear (suc (suc (suc (suc (suc (suc zero)))))) p (x, s, (q, y, v, l, (i, j, c, d, e))) =
-        u .apart q p (v .0) l (s .1) i j (rw (same q y v) at c) (rw (same p x s) at d) (rw (same p x s, same q y v) at e)
-    usable-clear (suc (suc (suc (suc (suc (suc (suc zero))))))) p (x, s, l) = omega (arith, u .within p (s .0) (s .1), rw (same p x s) at l)
-    usable-clear (suc (suc (suc (suc (suc (suc (suc (suc zero)))))))) p (w, z) =
-        let f = rw (u .held) at (u .flag) in
-        ⊎-elim (λ (t, e). omega (arith, f .0 t, e)) (λ (t, l). never (f .1 l) t) w
-    usable-clear (suc (suc (suc (suc (suc (suc (suc (suc (suc k))))))))) p a = a
+    usable-clear : NoneApplies (ruleList widthOf (Held (u .head) (u .places)))
+    usable-clear = (
+      λ p (e, z). let y : _≡_ {A = ℕ} 0 1 = cc in omega arith,
+      (
+        λ p (a, b, e). Option·none-ne-some (u .it p) (sym e ∙ u .present p a b),
+        (
+          λ p (x, s, z). omega (arith, rw (same p x s) at z, u .known p (s .0) (s .1)),
+          (
+            λ p (x, s, (q, y, v, l, e)). u .once q p (v .0) l (s .1) (rw (same p x s, same q y v) at e),
+            (
+              λ p (x, s, (q, y, v, e, l)). omega (arith, u .rises q p (v .0) e (s .1), rw (same p x s, same q y v) at l),
+              (
+                λ p (x, s, (o, f)). rw (same p x s) at f (u .even p (s .0) (s .1) (rw (same p x s) at o)),
+                (
+                  λ p (x, s, (q, y, v, l, (i, j, c, d, e))).
+                      u .apart q p (v .0) l (s .1) i j (rw (same q y v) at c) (rw (same p x s) at d) (rw (same p x s, same q y v) at e),
+                  (
+                    λ p (x, s, l). omega (arith, u .within p (s .0) (s .1), rw (same p x s) at l),
+                    (
+                      λ p (w, z). ⊎-elim (λ (t, e). omega (arith, rw (u .held) at (u .flag) .0 t, e)) (λ (t, l). never (rw (u .held) at (u .flag) .1 l) t) w,
+                      tt,
+                    ),
+                  ),
+                ),
+              ),
+            ),
+          ),
+        ),
+      ),
+    )
 
   -- "usable" is judgement 0, and that names no position
   pub usable-judged : (m : Map) → usable widthOf m ≡ true → judge widthOf m ≡ at 0 0
   usable-judged Nothing e = refl
   usable-judged Conflict e = never e refl
   usable-judged (Held h places) e =
-      ⊎-elim (λ (z, _). z) (λ (i, q, f). absurd (omega (arith, q, eqb-true (judge widthOf (Held h places) .number) 0 e))) (judges widthOf (Held h places))
+      ⊎-elim (λ (z, _). z) (λ (l, f). absurd (omega (arith, l, eqb-true (judge widthOf (Held h places) .number) 0 e))) (judges widthOf (Held h places) .said)
 
   -- "0 usable": the map is held and not in conflict, and no rule of 01's list applies to any position
   pub usable-exactly : (m : Map) → (usable widthOf m ≡ true) ↔ Usable widthOf m

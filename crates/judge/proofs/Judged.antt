@@ -2,12 +2,12 @@
 -- Assumes nothing; of a dictionary, where widths are bounded, that it gives none above 32.
 use Prim.Native.Nat.{ℕ, zero, suc, _≤_, _<_}
 use mathlib.Core.Path.{_≡_, refl}
-use mathlib.Core.Bool.{Bool, true, false, cond, _&&_, and-eq-true-iff}
+use mathlib.Core.Bool.{Bool, true, false, cond, not, _&&_, and-eq-true-iff}
 use mathlib.Core.Option.{Option, none, some}
 use mathlib.Core.List.{List}
 use native.Mathlib.Omega.{arith}
-use borrow.Author.Tests.{leb-true}
-use lib.Dec.{leb}
+use borrow.Author.Tests.{leb-true, eqb-false, not-true}
+use lib.Dec.{leb, eqb}
 use lib.ListN.{length, getD}
 use Rattle.answers.specs.Answers.{at}
 use Rattle.message.specs.declared.Place.{Place}
@@ -25,16 +25,19 @@ use Rattle.judge.proofs.Exactly.{usable-exactly, shares-no}
 
 module _ (n : ℕ) (transport : Bool) (ps : ℕ → Option Param) where
   ruled : Ruled n (rules n ps)
-  ruled = (rule _ _ refl, (rule _ _ refl, (rule _ _ refl, (rule _ _ refl, (rule _ _ refl, (rule _ _ refl, tt))))))
+  ruled = (rule _ _ refl, (rule _ _ refl, (rule _ _ refl, (rule _ _ refl, (rule _ _ refl, (rule _ _ refl, (rule _ _ refl, tt)))))))
     where
-      rule : (k : ℕ) (t : ℕ → Bool) → leb 2 k && leb k 7 ≡ true → (2 ≤ k) × (k ≤ 7) × (lowest t n ≤ n)
-      rule k t e = let (a, b) = and-eq-true-iff (leb 2 k) (leb k 7) .0 e in (leb-true 2 k a, leb-true k 7 b, lowest-most t n)
+      rule : (k : ℕ) (t : ℕ → Bool) → (leb 2 k && (leb k 9 && not (eqb k 8))) ≡ true → (2 ≤ k) × (k ≤ 9) × (k ≡ 8 → ⊥) × (lowest t n ≤ n)
+      rule k t e =
+          let (a, b) = and-eq-true-iff (leb 2 k) (leb k 9 && not (eqb k 8)) .0 e in
+          let (c, d) = and-eq-true-iff (leb k 9) (not (eqb k 8)) .0 b in
+          (leb-true 2 k a, leb-true k 9 c, eqb-false k 8 (not-true _ d), lowest-most t n)
 
   last-named : (b : Bool) → Named n (at (cond b 8 0) 0)
-  last-named true = nameless n 8 (omega arith) (λ l m. omega arith)
+  last-named true = nameless n 8 (omega arith) (λ l m. m refl)
   last-named false = nameless n 0 (omega arith) (λ l m. omega arith)
 
-  -- 2 to 7 name a position from 1 to n; 0, 1 and 8 name none
+  -- 2 to 7 and 9 name a position from 1 to n; 0, 1 and 8 name none
   pub judged-named : Named n (judgeOver n transport ps)
   unfolding judgeOver
   judged-named = first-named n (rules n ps) _ ruled (last-named (wrongTransport transport (sizeOver n ps)))

@@ -15,7 +15,7 @@ use Rattle.words.specs.First.{any, lowest}
 use Rattle.places.specs.Place.{endOf, endIn, endTo, bytesFor, sizeOf}
 use Rattle.words.proofs.Lowest.{any-zero, any-more, any-none, any-each, lowest-each, lowest-none, lowest-equal}
 use Rattle.words.proofs.Lists.{length-tabulate, get-tabulate}
-use Rattle.judge.specs.Judge.{Param, missing, unknown, repeated, notAbove, overlaps, beyond, wrongTransport, firstNamed, sizeOver, judgeOver, mark, shortest, marked, numberAt, inSlices}
+use Rattle.judge.specs.Judge.{Param, missing, unknown, repeated, notAbove, uneven, overlaps, beyond, wrongTransport, firstNamed, sizeOver, judgeOver, mark, shortest, marked, numberAt, inSlices}
 use Rattle.words.proofs.Tests.{test, never}
 use Rattle.judge.proofs.Rules.{stop}
 use Rattle.judge.proofs.Within.{judged-same}
@@ -78,15 +78,18 @@ module _ (starts widths : List ℕ) where
 
 -- ---- the rules
 module _ (n : ℕ) (transport : Bool) (spns starts widths : List ℕ) where
-  -- 2 to 7 in order, by what the slices hold: the list from each rule on
+  -- 2 to 7 in order, 9 before 6, by what the slices hold: the list from each rule on
   abbrev pub from7 : List Judged
   from7 = at 7 (lowest (beyond (numberAt starts) (numberAt widths)) n) ∷ []
 
   abbrev pub from6 : List Judged
   from6 = at 6 (lowest (overlaps (numberAt starts) (numberAt widths)) n) ∷ from7
 
+  abbrev pub from9 : List Judged
+  from9 = at 9 (lowest (uneven (numberAt starts) (numberAt widths)) n) ∷ from6
+
   abbrev pub from5 : List Judged
-  from5 = at 5 (lowest (notAbove (numberAt starts)) n) ∷ from6
+  from5 = at 5 (lowest (notAbove (numberAt starts)) n) ∷ from9
 
   abbrev pub from4 : List Judged
   from4 = at 4 (lowest (repeated (numberAt spns)) n) ∷ from5

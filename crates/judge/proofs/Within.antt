@@ -1,16 +1,16 @@
 -- Only the positions 1 to n count for a judgement: where two maps agree on them, their rules, L and judgement are the same.
 -- Assumes nothing.
-use Prim.Native.Nat.{ℕ, zero, suc, _<_}
+use Prim.Native.Nat.{ℕ, zero, suc, _%_, _<_}
 use mathlib.Core.Path.{_≡_, refl, ap, ap₂}
-use mathlib.Core.Bool.{Bool, cond}
+use mathlib.Core.Bool.{Bool, cond, not, _&&_}
 use mathlib.Core.Option.{Option}
 use mathlib.Core.List.{[], _∷_}
 use native.Mathlib.Omega.{arith}
 use lib.Dec.{eqb, leb, ltb}
 use Rattle.answers.specs.Answers.{at}
 use Rattle.words.specs.Lists.{tabulate}
-use Rattle.places.specs.Place.{endOf, sharesBit, sizeOf}
-use Rattle.judge.specs.Judge.{Param, isNone, spnIn, startIn, widthIn, spnAt, startAt, widthAt, missing, unknown, repeated, notAbove, overlaps, beyond, wrongTransport, rules, firstNamed, sizeOver, judgeOver}
+use Rattle.places.specs.Place.{odd, endOf, sharesBit, sizeOf}
+use Rattle.judge.specs.Judge.{Param, isNone, spnIn, startIn, widthIn, spnAt, startAt, widthAt, missing, unknown, repeated, notAbove, uneven, overlaps, beyond, wrongTransport, rules, firstNamed, sizeOver, judgeOver}
 use Rattle.words.proofs.Lists.{tabulate-equal}
 use Rattle.words.proofs.Lowest.{any-equal, lowest-equal}
 
@@ -47,6 +47,9 @@ module _ (n : ℕ) (ps qs : ℕ → Option Param) (same : (i : ℕ) → i < n �
   not-above-same zero l = refl
   not-above-same (suc i) l = λ k. leb (start-same (suc i) l k) (start-same i (omega arith) k)
 
+  uneven-same : (i : ℕ) → i < n → uneven (startAt ps) (widthAt ps) i ≡ uneven (startAt qs) (widthAt qs) i
+  uneven-same i l = λ k. odd (width-same i l k) && not (eqb (start-same i l k % 8) 0)
+
   overlaps-same : (i : ℕ) → i < n → overlaps (startAt ps) (widthAt ps) i ≡ overlaps (startAt qs) (widthAt qs) i
   overlaps-same i l = any-equal _ _ i one
     where
@@ -64,6 +67,7 @@ module _ (n : ℕ) (ps qs : ℕ → Option Param) (same : (i : ℕ) → i < n �
       ∷ at 3 (lowest-equal _ _ n unknown-same k)
       ∷ at 4 (lowest-equal _ _ n repeated-same k)
       ∷ at 5 (lowest-equal _ _ n not-above-same k)
+      ∷ at 9 (lowest-equal _ _ n uneven-same k)
       ∷ at 6 (lowest-equal _ _ n overlaps-same k)
       ∷ at 7 (lowest-equal _ _ n beyond-same k)
       ∷ []

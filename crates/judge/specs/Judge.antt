@@ -1,8 +1,8 @@
--- The judgement of a map, and the length of its payload (01, "A set and its judgement"). A dictionary is a function from SPN to width, 0 where
+-- The judgement of a map, and the length of its payload (01, "A set and its judgement"; 02, Req 04). A dictionary is a function from SPN to width, 0 where
 -- it does not have the SPN. Positions count from 1; position i + 1 has the index i.
 -- Assumes nothing.
-use Prim.Native.Nat.{ℕ, zero, suc, min}
-use mathlib.Core.Bool.{Bool, true, false, cond, _||_}
+use Prim.Native.Nat.{ℕ, zero, suc, _%_, min}
+use mathlib.Core.Bool.{Bool, true, false, cond, not, _&&_, _||_}
 use mathlib.Core.Option.{Option, none, some}
 use mathlib.Core.List.{List, [], _∷_}
 use lib.Dec.{eqb, leb, ltb}
@@ -11,7 +11,7 @@ use Rattle.answers.specs.Answers.{Judged, at}
 use Rattle.message.specs.declared.Place.{Place}
 use Rattle.words.specs.Lists.{tabulate}
 use Rattle.words.specs.First.{any, lowest}
-use Rattle.places.specs.Place.{endOf, sharesBit, sizeOf}
+use Rattle.places.specs.Place.{odd, endOf, sharesBit, sizeOf}
 use Rattle.maps.specs.Maps.{Map, Nothing, Conflict, Held}
 
 -- ---- what the judge sees of a map
@@ -77,11 +77,15 @@ unfoldable pub notAbove : (ℕ → ℕ) → ℕ → Bool
 notAbove start zero = false
 notAbove start (suc i) = leb (start (suc i)) (start i)
 
+-- 02, Req 04: "judgement 9, start not a multiple of 8": of an odd width, which "starts at a multiple of 8"
+abbrev pub uneven : (ℕ → ℕ) → (ℕ → ℕ) → ℕ → Bool
+uneven start width i = odd (width i) && not (eqb (start i % 8) 0)
+
 -- "6 it shares a bit with an earlier one"
 abbrev pub overlaps : (ℕ → ℕ) → (ℕ → ℕ) → ℕ → Bool
 overlaps start width i = any (λ j. sharesBit (start j) (width j) (start i) (width i)) i
 
--- "7 start + width above 14,280"
+-- "7 start + width above 14,280": the end stands for start + width
 abbrev pub beyond : (ℕ → ℕ) → (ℕ → ℕ) → ℕ → Bool
 beyond start width i = ltb 14280 (endOf (start i) (width i))
 
@@ -91,13 +95,14 @@ wrongTransport transport bytes = cond transport (eqb bytes 8) (ltb 8 bytes)
 
 -- ---- the judgement
 
--- "with its lowest position": 2 to 7 in order, each with the lowest of the positions 1 to n that it applies to, or 0
+-- "with its lowest position": 2 to 7 in order, 9 "tested after 5 and before 6", each with the lowest of the positions 1 to n that it applies to, or 0
 abbrev pub rules : ℕ → (ℕ → Option Param) → List Judged
 rules n ps =
     at 2 (lowest (missing ps) n)
     ∷ at 3 (lowest (unknown (widthAt ps)) n)
     ∷ at 4 (lowest (repeated (spnAt ps)) n)
     ∷ at 5 (lowest (notAbove (startAt ps)) n)
+    ∷ at 9 (lowest (uneven (startAt ps) (widthAt ps)) n)
     ∷ at 6 (lowest (overlaps (startAt ps) (widthAt ps)) n)
     ∷ at 7 (lowest (beyond (startAt ps) (widthAt ps)) n)
     ∷ []

@@ -1,8 +1,8 @@
--- 01's list of rules ("A set and its judgement") as statements about a map and a position, without a search, and what it is for a map to be usable.
+-- 01's list of rules ("A set and its judgement"), with 02's rule 9, as statements about a map and a position, without a search, and what it is for a map to be usable.
 -- proofs/Exactly.antt: `judge` gives the first of the list that applies, with its lowest position, and `usable` holds exactly where none applies to a
 -- map that is held. A dictionary is a function from SPN to width, 0 where it does not have the SPN. Positions count from 1.
 -- Assumes nothing.
-use Prim.Native.Nat.{ℕ, zero, suc, _+_, _≤_, _<_}
+use Prim.Native.Nat.{ℕ, _+_, _%_, _≤_, _<_}
 use mathlib.Core.Path.{_≡_}
 use mathlib.Core.Logic.{_⊎_, _↔_}
 use mathlib.Core.Bool.{true, false}
@@ -10,7 +10,7 @@ use mathlib.Core.Option.{Option, none, some}
 use mathlib.Core.List.{List, [], _∷_}
 use Rattle.message.specs.declared.Head.{Head}
 use Rattle.message.specs.declared.Place.{Place}
-use Rattle.places.specs.Place.{place, endOf}
+use Rattle.places.specs.Place.{odd, place, endOf}
 use Rattle.maps.specs.Maps.{Map, Conflict, Held}
 use Rattle.judge.specs.Judge.{countOf, transportOf, placesOf, lengthOf}
 
@@ -40,6 +40,10 @@ RepeatedAt m p = (x : Place) × StandsAt m p x × ((q : ℕ) × (y : Place) × S
 abbrev pub NotAboveAt : Map → ℕ → Type 0
 NotAboveAt m p = (x : Place) × StandsAt m p x × ((q : ℕ) × (y : Place) × StandsAt m q y × (q + 1 ≡ p) × (x .start ≤ y .start))
 
+-- 02, Req 04: "judgement 9, start not a multiple of 8", of an odd width
+abbrev pub UnevenAt : (ℕ → ℕ) → Map → ℕ → Type 0
+UnevenAt widthOf m p = (x : Place) × StandsAt m p x × ((odd (widthOf (x .spn)) ≡ true) × (x .start % 8 ≡ 0 → ⊥))
+
 -- "6 it shares a bit with an earlier one": a bit j of it has the place of a bit i of the earlier one
 abbrev pub OverlapsAt : (ℕ → ℕ) → Map → ℕ → Type 0
 OverlapsAt widthOf m p =
@@ -48,7 +52,7 @@ OverlapsAt widthOf m p =
     × ((i j : ℕ) × (i < widthOf (y .spn)) × (j < widthOf (x .spn))
     × (place (y .start) (widthOf (y .spn)) i ≡ place (x .start) (widthOf (x .spn)) j)))
 
--- "7 start + width above 14,280"
+-- "7 start + width above 14,280": the end stands for start + width
 abbrev pub BeyondAt : (ℕ → ℕ) → Map → ℕ → Type 0
 BeyondAt widthOf m p = (x : Place) × StandsAt m p x × (14280 < endOf (x .start) (widthOf (x .spn)))
 
@@ -59,31 +63,40 @@ TransportAt widthOf m p =
 
 -- ---- the list
 
--- in 01's order: rule k is the k-th
-abbrev pub ruleList : (ℕ → ℕ) → Map → List (ℕ → Type 0)
+-- a rule: its number, and what it is for it to apply to a position
+abbrev pub Rule : Type 1
+Rule = ℕ × (ℕ → Type 0)
+
+-- in the order in which they are tested: 01's, and 9 "after 5 and before 6"
+abbrev pub ruleList : (ℕ → ℕ) → Map → List Rule
 ruleList widthOf m =
-    ConflictAt m
-    ∷ MissingAt m
-    ∷ UnknownAt widthOf m
-    ∷ RepeatedAt m
-    ∷ NotAboveAt m
-    ∷ OverlapsAt widthOf m
-    ∷ BeyondAt widthOf m
-    ∷ TransportAt widthOf m
+    (1, ConflictAt m)
+    ∷ (2, MissingAt m)
+    ∷ (3, UnknownAt widthOf m)
+    ∷ (4, RepeatedAt m)
+    ∷ (5, NotAboveAt m)
+    ∷ (9, UnevenAt widthOf m)
+    ∷ (6, OverlapsAt widthOf m)
+    ∷ (7, BeyondAt widthOf m)
+    ∷ (8, TransportAt widthOf m)
     ∷ []
 
--- rule k of a list applies to position p
-abbrev pub Applies : List (ℕ → Type 0) → ℕ → ℕ → Type 0
-Applies [] k p = ⊥
-Applies (r ∷ rs) zero p = ⊥
-Applies (r ∷ rs) (suc zero) p = r p
-Applies (r ∷ rs) (suc (suc k)) p = Applies rs (suc k) p
+-- a rule applies to no position
+abbrev pub Nowhere : (ℕ → Type 0) → Type 0
+Nowhere says = (p : ℕ) → says p → ⊥
 
--- "the first of these that applies, with its lowest position": rule k applies to p and to no lower position, and no rule before it to any
-pub record FirstApplies (rs : List (ℕ → Type 0)) (k p : ℕ) : Type 0 where
-  pub applies : Applies rs k p
-  pub lowest : (q : ℕ) → q < p → Applies rs k q → ⊥
-  pub before : (j q : ℕ) → j < k → Applies rs j q → ⊥
+-- no rule of a list applies to any position
+abbrev pub NoneApplies : List Rule → Type 0
+NoneApplies [] = Unit {0}
+NoneApplies (r ∷ rs) = Nowhere (r .1) × NoneApplies rs
+
+-- "the first of these that applies, with its lowest position": the first of the list has the number k and applies to p and to no lower position; or it
+-- applies nowhere, and among the rest this holds
+abbrev pub FirstApplies : List Rule → ℕ → ℕ → Type 0
+FirstApplies [] k p = ⊥
+FirstApplies (r ∷ rs) k p =
+    ((r .0 ≡ k) × r .1 p × ((q : ℕ) → q < p → r .1 q → ⊥))
+    ⊎ (Nowhere (r .1) × FirstApplies rs k p)
 
 -- ---- usable
 
@@ -102,10 +115,12 @@ pub record Usable (widthOf : ℕ → ℕ) (m : Map) : Type 0 where
   pub once : (q p : ℕ) → 1 ≤ q → q < p → p ≤ head .n → it q .spn ≡ it p .spn → ⊥
   -- its start is above the start one position before
   pub rises : (q p : ℕ) → 1 ≤ q → q + 1 ≡ p → p ≤ head .n → it q .start < it p .start
+  -- an odd width starts at a multiple of 8
+  pub even : (p : ℕ) → 1 ≤ p → p ≤ head .n → odd (widthOf (it p .spn)) ≡ true → it p .start % 8 ≡ 0
   -- it shares no bit with an earlier one: no bit j of it has the place of a bit i of an earlier one
   pub apart : (q p : ℕ) → 1 ≤ q → q < p → p ≤ head .n → (i j : ℕ) → i < widthOf (it q .spn) → j < widthOf (it p .spn)
       → place (it q .start) (widthOf (it q .spn)) i ≡ place (it p .start) (widthOf (it p .spn)) j → ⊥
-  -- start + width is at most 14,280
+  -- its end is at most 14,280
   pub within : (p : ℕ) → 1 ≤ p → p ≤ head .n → endOf (it p .start) (widthOf (it p .spn)) ≤ 14280
   -- the transport flag is yes exactly where the payload has more than 8 bytes
   pub flag : (head .transport ≡ true) ↔ (8 < lengthOf widthOf m)

@@ -1,4 +1,4 @@
-// Judging a map that stands in plain slices of SPNs, starts and widths (01, "A set and its judgement"). The slices may have any length and
+// Judging a map that stands in plain slices of SPNs, starts and widths (01, "A set and its judgement"; 02, Req 04). The slices may have any length and
 // hold anything; what they stand for is `inSlices`. In each search the count says what holds of the positions that were passed.
 ghost use mathlib.Core.Path.{_≡_};
 ghost use Prim.Native.Nat.{_≤_, _<_, min, max};
@@ -7,11 +7,17 @@ ghost use lib.ListN.{length};
 ghost use Rattle.answers.specs.Answers.{saidOf};
 ghost use Rattle.words.specs.First.{lowest};
 ghost use Rattle.places.specs.Place.{sharesBit, endIn, endTo};
-ghost use Rattle.judge.specs.Judge.{numberAt, shortest as shortestOf, marked, unknown, repeated, notAbove, overlaps, beyond, wrongTransport, judgeOver, inSlices};
+ghost use Rattle.judge.specs.Judge.{numberAt, shortest as shortestOf, marked, unknown, repeated, notAbove, uneven, overlaps, beyond, wrongTransport, judgeOver, inSlices};
 use answers::Judgement;
 
 // The width that says "nothing stands at this position".
 pub const MISSING: u32 = 0xffff_ffff;
+
+// What the search for shared bits found: the lowest position that shares a bit with an earlier one, or 0, and the largest end of those passed.
+struct Swept {
+    position: u8,
+    end: u64,
+}
 
 // The smaller of two numbers.
 fn smaller(a: usize, b: usize) -> usize
@@ -129,6 +135,29 @@ fn lowest_not_above(n: u8, starts: &[u32]) -> u8
     0
 }
 
+// Whether the parameter at index i has an odd width and starts at no multiple of 8.
+fn is_uneven(starts: &[u32], widths: &[u32], i: u8) -> bool
+    requires { ⌜ (i < length (now starts)) × (i < length (now widths)) ⌝ }
+    ensures { λ r. ⌜ r ≡ uneven (numberAt (now (starts .entry))) (numberAt (now (widths .entry))) i ⌝ }
+{
+    places::is_odd(number_at(widths, i)) & (number_at(starts, i) % 8 != 0)
+}
+
+// The lowest position whose width is odd and whose start is no multiple of 8, or 0.
+fn lowest_uneven(n: u8, starts: &[u32], widths: &[u32]) -> u8
+    requires { ⌜ (n ≤ length (now starts)) × (n ≤ length (now widths)) ⌝ }
+    ensures { λ r. ⌜ r ≡ lowest (uneven (numberAt (now (starts .entry))) (numberAt (now (widths .entry)))) n ⌝ }
+{
+    let mut even = 0;
+    while even < n {
+        if is_uneven(starts, widths, even) {
+            return even + 1;
+        }
+        even += 1;
+    }
+    0
+}
+
 // Whether the parameters at indices i and j share a bit.
 fn share(starts: &[u32], widths: &[u32], i: u8, j: u8) -> bool
     requires { ⌜ (i < length (now starts)) × (i < length (now widths)) × (j < length (now starts)) × (j < length (now widths)) ⌝ }
@@ -143,28 +172,60 @@ fn share(starts: &[u32], widths: &[u32], i: u8, j: u8) -> bool
     )
 }
 
-// The lowest position that shares a bit with an earlier one, or 0. Where starts rise and all widths are known, to look at the one before is enough.
-fn lowest_overlap(n: u8, starts: &[u32], widths: &[u32]) -> u8
-    requires { ⌜ (n ≤ length (now starts)) × (n ≤ length (now widths)) × (lowest (unknown (numberAt (now widths))) n ≡ 0)
-        × (lowest (notAbove (numberAt (now starts))) n ≡ 0) ⌝ }
-    ensures { λ r. ⌜ r ≡ lowest (overlaps (numberAt (now (starts .entry))) (numberAt (now (widths .entry)))) n ⌝ }
+// Whether the parameter at index i shares a bit with an earlier one.
+fn shares_earlier(starts: &[u32], widths: &[u32], i: u8) -> bool
+    requires { ⌜ (i < length (now starts)) × (i < length (now widths)) ⌝ }
+    ensures { λ r. ⌜ r ≡ overlaps (numberAt (now (starts .entry))) (numberAt (now (widths .entry))) i ⌝ }
 {
-    let mut apart = 1;
-    while apart < n {
-        if share(starts, widths, apart - 1, apart) {
-            return apart + 1;
+    let mut others = 0;
+    while others < i {
+        if share(starts, widths, others, i) {
+            return true;
         }
-        apart += 1;
+        others += 1;
     }
-    0
+    false
 }
 
-// The end of the parameter at index i: 01's start + width.
+// The end of the parameter at index i.
 fn end_at(starts: &[u32], widths: &[u32], i: u8) -> u64
     requires { ⌜ (i < length (now starts)) × (i < length (now widths)) ⌝ }
     ensures { λ r. ⌜ r ≡ endIn (now (starts .entry)) (now (widths .entry)) i ⌝ }
 {
     places::end_bit(number_at(starts, i), number_at(widths, i))
+}
+
+// The same, where the largest end of the earlier ones is known: they are looked at only where the parameter starts below it, which it may, in the low bits
+// that an odd width skips.
+fn is_overlap(end: u64, starts: &[u32], widths: &[u32], i: u8) -> bool
+    requires { ⌜ (i < length (now starts)) × (i < length (now widths)) × (end ≡ endTo (now starts) (now widths) i) ⌝ }
+    ensures { λ r. ⌜ r ≡ overlaps (numberAt (now (starts .entry))) (numberAt (now (widths .entry))) i ⌝ }
+{
+    if end <= number_at(starts, i) as u64 {
+        return false;
+    }
+    shares_earlier(starts, widths, i)
+}
+
+// The lowest position that shares a bit with an earlier one, or 0; where there is none, also the largest end of all.
+fn sweep(n: u8, starts: &[u32], widths: &[u32]) -> Swept
+    requires { ⌜ (n ≤ length (now starts)) × (n ≤ length (now widths)) ⌝ }
+    ensures { λ r. ⌜ (r .position ≡ lowest (overlaps (numberAt (now (starts .entry))) (numberAt (now (widths .entry)))) n)
+        × (r .position ≡ 0 → r .end ≡ endTo (now (starts .entry)) (now (widths .entry)) n) ⌝ }
+{
+    let mut end = 0;
+    let mut apart = 0;
+    while apart < n {
+        if is_overlap(end, starts, widths, apart) {
+            return Swept {
+                position: apart + 1,
+                end,
+            };
+        }
+        end = larger(end, end_at(starts, widths, apart));
+        apart += 1;
+    }
+    Swept { position: 0, end }
 }
 
 // Whether an end is above 14,280.
@@ -189,20 +250,6 @@ fn lowest_beyond(n: u8, starts: &[u32], widths: &[u32]) -> u8
     0
 }
 
-// The largest end of the first n parameters.
-fn largest_end(n: u8, starts: &[u32], widths: &[u32]) -> u64
-    requires { ⌜ (n ≤ length (now starts)) × (n ≤ length (now widths)) ⌝ }
-    ensures { λ r. ⌜ r ≡ endTo (now (starts .entry)) (now (widths .entry)) n ⌝ }
-{
-    let mut largest = 0;
-    let mut i = 0;
-    while i < n {
-        largest = larger(largest, end_at(starts, widths, i));
-        i += 1;
-    }
-    largest
-}
-
 // Whether the transport flag is yes with a payload of 8 bytes, or no with a longer one.
 fn is_wrong_transport(transport: bool, bytes: u64) -> bool
     ensures { λ r. ⌜ r ≡ wrongTransport transport bytes ⌝ }
@@ -210,8 +257,8 @@ fn is_wrong_transport(transport: bool, bytes: u64) -> bool
     if transport { bytes == 8 } else { 8 < bytes }
 }
 
-// The judgement of n parameters: the first rule of 01's list that applies, with its lowest position. No rule after it is tried. The largest end is asked
-// for once: which position is beyond 14,280 is looked for only where it is.
+// The judgement of n parameters: the first rule of the list that applies, with its lowest position. No rule after it is tried. The largest end comes
+// from the search for shared bits: which position is beyond 14,280 is looked for only where it is.
 pub fn judge(n: u8, transport: bool, spns: &[u32], starts: &[u32], widths: &[u32]) -> Judgement
     ensures { λ r. ⌜ saidOf r ≡ judgeOver n transport (inSlices (now (spns .entry)) (now (starts .entry)) (now (widths .entry))) ⌝ }
 {
@@ -231,16 +278,19 @@ pub fn judge(n: u8, transport: bool, spns: &[u32], starts: &[u32], widths: &[u32
     if not_above != 0 {
         return Judgement::NotAbove(not_above);
     }
-    let overlap = lowest_overlap(n, starts, widths);
-    if overlap != 0 {
-        return Judgement::Overlaps(overlap);
+    let uneven = lowest_uneven(n, starts, widths);
+    if uneven != 0 {
+        return Judgement::Uneven(uneven);
     }
-    let end = largest_end(n, starts, widths);
-    if is_beyond(end) {
+    let swept = sweep(n, starts, widths);
+    if swept.position != 0 {
+        return Judgement::Overlaps(swept.position);
+    }
+    if is_beyond(swept.end) {
         let beyond = lowest_beyond(n, starts, widths);
         return Judgement::Beyond(beyond);
     }
-    if is_wrong_transport(transport, places::bytes_for(end)) {
+    if is_wrong_transport(transport, places::bytes_for(swept.end)) {
         return Judgement::Transport;
     }
     Judgement::Usable

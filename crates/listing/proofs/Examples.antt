@@ -6,7 +6,7 @@ use Rattle.text.specs.Text.{spelt, decimalOf, decimalTo}
 use Rattle.dictionary.specs.Dictionary.{widthOf, widthIn}
 use Rattle.rowrule.specs.Rows.{table}
 use Rattle.message.specs.Message.{heard}
-use Rattle.places.specs.Place.{meet, place, endOf, sharesBit, endTo, bytesFor, sizeOf}
+use Rattle.places.specs.Place.{odd, skipped, meet, place, endOf, sharesBit, endTo, bytesFor, sizeOf}
 use Rattle.words.specs.Lists.{tabulate}
 use Rattle.words.specs.First.{first, any, lowest}
 use Rattle.maps.specs.Maps.{sameKey, sameHead, samePlace, contradicts, conflict}
@@ -28,5 +28,5 @@ unfolding listingOf storyOf over overTo wholeIn leftOf listingWith lastLine sort
 empty-log = refl
 
 pub two-records : listingOf caseA ≡ spelt "SRC DST MSG N JUDGED AT\n38 39 1 2 0 0\nRECORDS 2 REFUSED 0 OTHER 0 LEFT 0\n"
-unfolding listingOf storyOf over overTo wholeIn leftOf recordAt recordIn tell heard listingWith keyLine lastLine sorted flatten flatMap decimalOf decimalTo sameKey sameHead samePlace contradicts conflict noRoom widthOf widthIn notAbove firstNamed judgeOver lowest table first any sharesBit meet place endOf sizeOf bytesFor endTo tabulate
+unfolding listingOf storyOf over overTo wholeIn leftOf recordAt recordIn tell heard listingWith keyLine lastLine sorted flatten flatMap decimalOf decimalTo sameKey sameHead samePlace contradicts conflict noRoom widthOf widthIn notAbove firstNamed judgeOver lowest table first any sharesBit meet odd skipped place endOf sizeOf bytesFor endTo tabulate
 two-records = refl

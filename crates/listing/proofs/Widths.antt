@@ -1,7 +1,8 @@
 -- How long the lines are at most: 512 bytes always hold a listing. On any words and any tally. Assumes nothing.
 use Prim.Native.Nat.{ℕ, zero, suc, _+_, _*_, _≤_, _<_}
 use native.Mathlib.Omega.{arith}
-use native.Mathlib.Decide.{decLt}
+use native.Mathlib.Decide.{decLt, ℕ-discrete}
+use mathlib.Core.Path.{_≡_}
 use mathlib.Core.Logic.{inl, inr}
 use mathlib.Core.Option.{none, some}
 use mathlib.Core.List.{List, flatten, flatMap}
@@ -35,12 +36,12 @@ use Rattle.learned.proofs.KeyNumbers.{named-bytes}
 -- ---- what is known of a key, in bytes
 
 named-byte : (n : ℕ) (j : Judged) → n < 256 → Named n j → (j .number < 256) × (j .position < 256)
-named-byte n j h u = (omega (arith, u .number), go (decLt (j .number) 2) (decLt (j .number) 8))
+named-byte n j h u = (omega (arith, u .number), go (decLt (j .number) 2) (ℕ-discrete (j .number) 8))
   where
-    go : Dec (j .number < 2) → Dec (j .number < 8) → j .position < 256
+    go : Dec (j .number < 2) → Dec (j .number ≡ 8) → j .position < 256
     go (yes a) b = omega (arith, u .none (inl (omega arith)))
-    go (no a) (no b) = omega (arith, u .none (inr (omega arith)))
-    go (no a) (yes b) = omega (arith, u .some (omega arith) (omega arith))
+    go (no a) (yes b) = omega (arith, u .none (inr b))
+    go (no a) (no b) = omega (arith, u .some (omega arith) b)
 
 judged-byte : (m : Map) → countOf m < 256 → (judge widthOf m .number < 256) × (judge widthOf m .position < 256)
 judged-byte Nothing h = (omega arith, omega arith)

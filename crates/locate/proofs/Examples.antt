@@ -7,7 +7,7 @@ use Rattle.dictionary.specs.Dictionary.{widthOf, widthIn}
 use Rattle.rowrule.specs.Rows.{table}
 use Rattle.message.specs.declared.Key.{Key}
 use Rattle.message.specs.declared.Message.{Message}
-use Rattle.places.specs.Place.{meet, place, endOf, sharesBit, endTo, bytesFor, sizeOf}
+use Rattle.places.specs.Place.{odd, skipped, meet, place, endOf, sharesBit, endTo, bytesFor, sizeOf}
 use Rattle.words.specs.Lists.{tabulate}
 use Rattle.words.specs.First.{first, any, lowest}
 use Rattle.maps.specs.Maps.{sameKey, sameHead, samePlace, contradicts, conflict, mapOf}
@@ -29,12 +29,12 @@ abbrev caseA : List Message
 caseA = says 1 1517 0 ∷ says 2 1519 8 ∷ []
 
 pub second-of-two : logOf (messagesOf widthOf (λ k. mapOf caseA) 38 1519 (key ∷ [])) ≡ 38 ∷ 39 ∷ 176 ∷ 24 ∷ 8 ∷ 0 ∷ 177 ∷ 0 ∷ 239 ∷ 5 ∷ 2 ∷ 130 ∷ 9 ∷ []
-unfolding placement positionOf recordOf bytesOf idOf fiveOf withKey flatten sameKey sameHead samePlace contradicts conflict widthOf widthIn notAbove firstNamed judgeOver lowest table first any sharesBit meet place endOf sizeOf bytesFor endTo tabulate
+unfolding placement positionOf recordOf bytesOf idOf fiveOf withKey flatten sameKey sameHead samePlace contradicts conflict widthOf widthIn notAbove firstNamed judgeOver lowest table first any sharesBit meet odd skipped place endOf sizeOf bytesFor endTo tabulate
 second-of-two = refl
 
 -- an SPN that the map does not have, and the keys of another address: nothing
 pub not-there : logOf (messagesOf widthOf (λ k. mapOf caseA) 38 1520 (key ∷ [])) ≡ []
-unfolding placement positionOf recordOf bytesOf idOf fiveOf withKey flatten sameKey sameHead samePlace contradicts conflict widthOf widthIn notAbove firstNamed judgeOver lowest table first any sharesBit meet place endOf sizeOf bytesFor endTo tabulate
+unfolding placement positionOf recordOf bytesOf idOf fiveOf withKey flatten sameKey sameHead samePlace contradicts conflict widthOf widthIn notAbove firstNamed judgeOver lowest table first any sharesBit meet odd skipped place endOf sizeOf bytesFor endTo tabulate
 not-there = refl
 
 pub not-ours : logOf (messagesOf widthOf (λ k. mapOf caseA) 39 1519 (key ∷ [])) ≡ []

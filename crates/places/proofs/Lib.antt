@@ -1,4 +1,3 @@
 pub mod Meet
 pub mod Place
 pub mod Placed
-pub mod Previous

@@ -1,21 +1,28 @@
 -- Where a parameter's bits stand in a payload, and what follows of its end, of shared bits, of L, and of a parameter that has no place (01, "Payload
--- bits" and "A set and its judgement"). A map is the lists of its starts and of its widths; a missing width counts as 0. Assumes nothing.
+-- bits" and "A set and its judgement"; 02, Req 04). A map is the lists of its starts and of its widths; a missing width counts as 0. Assumes nothing.
 use mathlib.Core.Path.{_≡_}
-use mathlib.Core.Bool.{Bool, _||_}
+use mathlib.Core.Bool.{Bool, cond, not, _&&_, _||_}
 use mathlib.Core.List.{List}
-use Prim.Native.Nat.{ℕ, zero, suc, _+_, _*_, _/_, _<_, max}
+use Prim.Native.Nat.{ℕ, zero, suc, _+_, _-_, _*_, _/_, _%_, _<_, max}
 use lib.ListN.{length, getD}
 use lib.Dec.{leb, ltb, eqb}
 use Rattle.words.specs.First.{any, lowest}
 
--- 01: "Bit i of the parameter's number stands at payload bit start + i". The width doesn't count as long as all bits lie in one run; Req 04 lays those of
--- an odd width otherwise, so every place is asked for with its width
-unfoldable pub place : ℕ → ℕ → ℕ → ℕ
-place start width i = start + i
+-- 02, Req 04: "a width above 8 that isn't a multiple of 8"
+unfoldable pub odd : ℕ → Bool
+odd width = ltb 8 width && not (eqb (width % 8) 0)
 
--- the payload bit after the last one of a parameter: 01's start + width
+-- 02: "its last, partial byte is filled from bit 8 downward": how many low bits of that byte an odd width skips. Other widths skip none
+unfoldable pub skipped : ℕ → ℕ
+skipped width = cond (odd width) (8 - width % 8) 0
+
+-- 01: "Bit i of the parameter's number stands at payload bit start + i"; 02: the bits of an odd width's last byte stand above those it skips
+unfoldable pub place : ℕ → ℕ → ℕ → ℕ
+place start width i = cond (ltb i (width / 8 * 8)) (start + i) (start + skipped width + i)
+
+-- the payload bit after the last one of a parameter: 01's start + width; 02: of an odd width "the end of that byte"
 unfoldable pub endOf : ℕ → ℕ → ℕ
-endOf start width = start + width
+endOf start width = start + skipped width + width
 
 -- whether one of f 0 .. f (m - 1) is one of g 0 .. g (n - 1)
 unfoldable pub meet : (ℕ → ℕ) → ℕ → (ℕ → ℕ) → ℕ → Bool
@@ -48,7 +55,7 @@ unfoldable pub endTo : List ℕ → List ℕ → ℕ → ℕ
 endTo ss ws zero = 0
 endTo ss ws (suc n) = max (endTo ss ws n) (endIn ss ws n)
 
--- 01's L, from the largest end: "the larger of 8 and the largest start + width divided by 8, rounded up"
+-- 01's L, from the largest end: "the larger of 8 and the largest start + width divided by 8, rounded up", where the end stands for start + width
 unfoldable pub bytesFor : ℕ → ℕ
 bytesFor end = max 8 ((end + 7) / 8)
 

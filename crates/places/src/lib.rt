@@ -1,15 +1,36 @@
 // Where the parameters of a map stand in its payload: ends, shared bits, L, and positions that have no place (01, "Payload bits" and "A set and its
-// judgement"). This room knows starts and widths, and no byte and no message. Its slices may have any length and hold anything.
+// judgement"; 02, Req 04). This room knows starts and widths, and no byte and no message. Its slices may have any length and hold anything.
 ghost use mathlib.Core.Path.{_≡_};
-ghost use Prim.Native.Nat.{_+_, _^_, _<_, max};
+ghost use Prim.Native.Nat.{_+_, _*_, _/_, _^_, _<_, max};
 ghost use lib.ListN.{getD};
-ghost use Rattle.places.specs.Place.{endOf, meet, sharesBit, endTo, bytesFor, lacksPlace, unplacedIn};
+ghost use Rattle.places.specs.Place.{odd, skipped, place, endOf, meet, sharesBit, endTo, bytesFor, lacksPlace, unplacedIn};
+
+// Whether a width is above 8 and no multiple of 8: its last, partial byte is filled from the top.
+pub fn is_odd(width: u32) -> bool
+    ensures { λ r. ⌜ r ≡ odd width ⌝ }
+{
+    (8 < width) & (width % 8 != 0)
+}
+
+// How many low bits of its last byte a parameter skips.
+pub fn skipped_bits(width: u32) -> u32
+    ensures { λ r. ⌜ r ≡ skipped width ⌝ }
+{
+    if is_odd(width) { 8 - width % 8 } else { 0 }
+}
 
 // The payload bit after the last one of a parameter.
 pub fn end_bit(start: u32, width: u32) -> u64
     ensures { λ r. ⌜ r ≡ endOf start width ⌝ }
 {
-    start as u64 + width as u64
+    start as u64 + skipped_bits(width) as u64 + width as u64
+}
+
+// The place of the first bit that fills no whole byte: from there on stand the bits left over.
+pub fn left_bit(start: u32, width: u32) -> u64
+    ensures { λ r. ⌜ r ≡ place start width (width / 8 * 8) ⌝ }
+{
+    start as u64 + skipped_bits(width) as u64 + (width / 8 * 8) as u64
 }
 
 // Whether two runs of n1 and n2 payload bits have a bit in common.
@@ -20,11 +41,22 @@ fn runs_share(start1: u64, n1: u64, start2: u64, n2: u64) -> bool
     (0 < n1) & (0 < n2) & (start1 < start2 + n2) & (start2 < start1 + n1)
 }
 
+// Whether a run of n payload bits and a parameter have a bit in common: the parameter is the run of its whole bytes and that of the bits left over.
+fn run_shares(from: u64, n: u64, start: u32, width: u32) -> bool
+    requires { ⌜ from + n < 2 ^ 64 ⌝ }
+    ensures { λ r. ⌜ r ≡ meet (λ i. from + i) n (place start width) width ⌝ }
+{
+    let whole = (width / 8 * 8) as u64;
+    runs_share(from, n, start as u64, whole)
+        | runs_share(from, n, left_bit(start, width), width as u64 - whole)
+}
+
 // Whether two parameters share a payload bit.
 pub fn shares(s1: u32, w1: u32, s2: u32, w2: u32) -> bool
     ensures { λ r. ⌜ r ≡ sharesBit s1 w1 s2 w2 ⌝ }
 {
-    runs_share(s1 as u64, w1 as u64, s2 as u64, w2 as u64)
+    let whole = (w1 / 8 * 8) as u64;
+    run_shares(s1 as u64, whole, s2, w2) | run_shares(left_bit(s1, w1), w1 as u64 - whole, s2, w2)
 }
 
 // L, from the largest end of a map's parameters.

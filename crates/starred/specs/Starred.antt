@@ -1,4 +1,4 @@
--- 01's starred examples, one table, and what it is for a case to hold. It is about the definitions that the promises cite, and with the
+-- 01's starred examples and the two that 02 asks for (Req 04, 19 bits), one table, and what it is for a case to hold. It is about the definitions that the promises cite, and with the
 -- dictionary of 002.
 -- Assumes nothing.
 use Prim.Native.Nat.{ℕ, suc}
@@ -72,6 +72,8 @@ starred =
     ∷ Lasts (mapWith true (1519 from 63 ∷ [])) 9
     ∷ Lasts (mapWith true (1517 from 14272 ∷ [])) 1785
     ∷ Judges (mapWith true (1517 from 14273 ∷ [])) 7 1
+    ∷ Packs (mapWith false (3147 from 8 ∷ 1519 from 24 ∷ [])) (0x54321 ∷ 2 ∷ []) (0xff ∷ 0x21 ∷ 0x43 ∷ 0xbe ∷ 0xff ∷ 0xff ∷ 0xff ∷ 0xff ∷ [])
+    ∷ Judges (mapWith false (1519 from 0 ∷ 3147 from 4 ∷ [])) 9 2
     ∷ Carries 0x18fee300 65251
     ∷ Sent 0x18ed20f8 60672 32 248
     ∷ Spelt 1517 (three 0xed 0x05 0x1f)

@@ -21,6 +21,7 @@ fn judgement(number: u8, p: u8) -> Judgement {
         5 => Judgement::NotAbove(p),
         6 => Judgement::Overlaps(p),
         7 => Judgement::Beyond(p),
+        9 => Judgement::Uneven(p),
         _ => Judgement::Transport,
     }
 }

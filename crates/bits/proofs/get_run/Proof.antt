@@ -19,8 +19,8 @@ got c =
     let a = c .before .before .before .before in
     run-got (now (a .args .payload)) (a .args .start) (a .args .width) _ _ _ (a .pre .0) (c .before .before .touched .ensures) (c .ones .ensures) (c .before .get-bytes .ensures)
 
-cast-result-2 : tie.Need-cast-result-2
-cast-result-2 c = omega (arith, got c)
+cast-result-3 : tie.Need-cast-result-3
+cast-result-3 c = omega (arith, got c)
 
 returns : tie.Need-returns
 returns c = got c .0
@@ -28,4 +28,4 @@ returns c = got c .0
 pub get-run-spec : {M : Type 1} → statement M
 get-run-spec =
     tie.close
-    (tie.spec (λ c. search needs) (λ c κs. search needs) (λ c κs. search needs) (λ c. search needs) (λ c. search needs) (λ c κs. search needs) cast-result-2 returns)
+    (tie.spec (λ c κs. search needs) (λ c κs. search needs) (λ c. search needs) (λ c. search needs) (λ c. search needs) (λ c κs. search needs) cast-result-3 returns)

@@ -1,6 +1,6 @@
 -- `judge`: the searches are made in 01's order, and the first that names a position is the answer. Assumes nothing.
 use Prim.Native.Nat.{ℕ, _≤_}
-use mathlib.Core.Path.{refl, sym, ap, _∙_}
+use mathlib.Core.Path.{_≡_, refl, sym, ap, _∙_}
 use mathlib.Core.Bool.{Bool}
 use mathlib.Core.List.{List, []}
 use denote.Ref.{now}
@@ -8,8 +8,9 @@ use borrow.Author.Needs.{needs}
 use lib.Dec.{ltb}
 use lib.ListN.{length}
 use Rattle.answers.specs.Answers.{Judged}
+use Rattle.places.specs.Place.{endTo}
 use Rattle.judge.proofs.Rules.{skip, stop}
-use Rattle.judge.proofs.Slices.{from3, from4, from5, from6, from7, plainly, Left, by-transport, reaches, none-beyond, some-beyond}
+use Rattle.judge.proofs.Slices.{from3, from4, from5, from6, from7, from9, plainly, Left, by-transport, reaches, none-beyond, some-beyond}
 use Rattle.judge.proofs.judge.Statement.{statement}
 use Rattle.judge.proofs.judge.Tie as tie
 
@@ -37,18 +38,26 @@ pass2 c = pass1 (c .before .before) ∙ skip 3 _ _ _ _ (c .before .lowest-unknow
 pass3 : (c : tie.Else3) → Rest (c .before .before .before .before .before .before .before .before .before) from5
 pass3 c = pass2 (c .before .before) ∙ skip 4 _ _ _ _ (c .before .lowest-repeated .ensures) (c .if3 .left)
 
-pass4 : (c : tie.Else4) → Rest (c .before .before .before .before .before .before .before .before .before .before .before) from6
+pass4 : (c : tie.Else4) → Rest (c .before .before .before .before .before .before .before .before .before .before .before) from9
 pass4 c = pass3 (c .before .before) ∙ skip 5 _ _ _ _ (c .before .lowest-not-above .ensures) (c .if4 .left)
 
-pass5 : (c : tie.Else5) → Rest (c .before .before .before .before .before .before .before .before .before .before .before .before .before) from7
-pass5 c = pass4 (c .before .before) ∙ skip 6 _ _ _ _ (c .before .lowest-overlap .ensures) (c .if5 .left)
+pass5 : (c : tie.Else5) → Rest (c .before .before .before .before .before .before .before .before .before .before .before .before .before) from6
+pass5 c = pass4 (c .before .before) ∙ skip 9 _ _ _ _ (c .before .lowest-uneven .ensures) (c .if5 .left)
+
+pass6 : (c : tie.Else6) → Rest (c .before .before .before .before .before .before .before .before .before .before .before .before .before .before .before .before) from7
+pass6 c = pass5 (c .before .before .before) ∙ skip 6 _ _ _ _ (c .before .before .sweep .ensures .0) (c .if6 .left)
+
+-- the largest end, as the search for shared bits found it
+ends : (c : tie.Else6) →
+    let a = c .before .before .before .before .before .before .before .before .before .before .before .before .before .before .before .before .args in
+    c .before .before .sweep .result .end ≡ endTo (now (a .starts)) (now (a .widths)) (a .n)
+ends c = c .before .before .sweep .ensures .1 (c .if6 .left)
 
 -- no position is beyond 14,280, since the largest end is not
-pass6 : (c : tie.Else6) → Rest (c .before .before .before .before .before .before .before .before .before .before .before .before .before .before .before .before) (λ n t x s w. [])
-pass6 c =
-    let e = c .before .before .largest-end .ensures in
-    pass5 (c .before .before .before)
-    ∙ skip 7 _ _ _ _ refl (none-beyond _ _ _ (ap (ltb 14280) (sym e) ∙ sym (c .before .is-beyond .ensures) ∙ c .if6 .left))
+pass7 : (c : tie.Else7) → Rest (c .before .before .before .before .before .before .before .before .before .before .before .before .before .before .before .before .before .before) (λ n t x s w. [])
+pass7 c =
+    pass6 (c .before .before)
+    ∙ skip 7 _ _ _ _ refl (none-beyond _ _ _ (ap (ltb 14280) (sym (ends (c .before .before))) ∙ sym (c .before .is-beyond .ensures) ∙ c .if7 .left))
 
 returns : tie.Need-returns
 returns c = sym (plainly _ _ _ _ _ ∙ stop 2 _ _ _ _ (c .before .lowest-missing .ensures) (c .if1 .taken))
@@ -63,31 +72,41 @@ returns-4 : tie.Need-returns-4
 returns-4 c = sym (pass3 (c .before .before) ∙ stop 5 _ _ _ _ (c .before .lowest-not-above .ensures) (c .if4 .taken))
 
 returns-5 : tie.Need-returns-5
-returns-5 c = sym (pass4 (c .before .before) ∙ stop 6 _ _ _ _ (c .before .lowest-overlap .ensures) (c .if5 .taken))
+returns-5 c = sym (pass4 (c .before .before) ∙ stop 9 _ _ _ _ (c .before .lowest-uneven .ensures) (c .if5 .taken))
 
 returns-6 : tie.Need-returns-6
-returns-6 c =
-    let l = c .before .before .before in
-    let r = c .lowest-beyond .ensures in
-    let far = some-beyond _ _ _ (ap (ltb 14280) (sym (l .largest-end .ensures)) ∙ sym (c .before .before .is-beyond .ensures) ∙ c .before .if6 .taken) in
-    sym (pass5 (l .before) ∙ stop 7 _ _ _ _ r (λ z. far (sym r ∙ z)))
+returns-6 c = sym (pass5 (c .before .before .before) ∙ stop 6 _ _ _ _ (c .before .before .sweep .ensures .0) (c .if6 .taken))
 
 returns-7 : tie.Need-returns-7
 returns-7 c =
-    by-transport _ _ _ _ _ (pass6 (c .before .before .before)) _ _ _ _
-    (c .before .before .before .before .before .largest-end .ensures) (c .before .before .bytes-for .ensures) (c .before .is-wrong-transport .ensures) (c .if7 .taken)
+    let e = c .before .before .before in
+    let r = c .lowest-beyond .ensures in
+    let far = some-beyond _ _ _ (ap (ltb 14280) (sym (ends e)) ∙ sym (c .before .before .is-beyond .ensures) ∙ c .before .if7 .taken) in
+    sym (pass6 e ∙ stop 7 _ _ _ _ r (λ z. far (sym r ∙ z)))
 
 returns-8 : tie.Need-returns-8
 returns-8 c =
-    by-transport _ _ _ _ _ (pass6 (c .before .before .before)) _ _ _ _
-    (c .before .before .before .before .before .largest-end .ensures) (c .before .before .bytes-for .ensures) (c .before .is-wrong-transport .ensures) (c .if7 .left)
+    let e = c .before .before .before in
+    by-transport _ _ _ _ _ (pass7 e) _ _ _ _ (ends (e .before .before)) (c .before .before .bytes-for .ensures) (c .before .is-wrong-transport .ensures) (c .if8 .taken)
+
+returns-9 : tie.Need-returns-9
+returns-9 c =
+    let e = c .before .before .before in
+    by-transport _ _ _ _ _ (pass7 e) _ _ _ _ (ends (e .before .before)) (c .before .before .bytes-for .ensures) (c .before .is-wrong-transport .ensures) (c .if8 .left)
+
+-- the slices of starts and widths have the n positions
+both : (c : tie.Else1) →
+    let a = c .before .before .before .before .before .args in
+    (a .n ≤ length (now (a .starts))) × (a .n ≤ length (now (a .widths)))
+both c = let (x, s, w) = inside c in (s, w)
 
 pub judge-spec : {M : Type 1} → statement M
 judge-spec =
     tie.close
     (tie.spec (λ c κs. search needs) returns (λ c κs. inside c .2) returns-2 (λ c κs. inside (c .before .before) .0) returns-3
     (λ c κs. inside (c .before .before .before .before) .1) returns-4
-    (λ c κs. let (x, s, w) = inside (c .before .before .before .before .before .before) in (s, w, sym (c .before .before .before .before .before .lowest-unknown .ensures) ∙ c .before .before .before .before .if2 .left, sym (c .before .lowest-not-above .ensures) ∙ c .if4 .left)) returns-5
-    (λ c κs. let (x, s, w) = inside (c .before .before .before .before .before .before .before .before) in (s, w)) (λ c κs. search needs)
-    (λ c κs. let (x, s, w) = inside (c .before .before .before .before .before .before .before .before .before .before .before) in (s, w)) returns-6
-    (λ c κs. search needs) (λ c κs. search needs) returns-7 returns-8)
+    (λ c κs. both (c .before .before .before .before .before .before)) returns-5
+    (λ c κs. both (c .before .before .before .before .before .before .before .before)) returns-6
+    (λ c κs. search needs)
+    (λ c κs. both (c .before .before .before .before .before .before .before .before .before .before .before .before .before)) returns-7
+    (λ c κs. search needs) (λ c κs. search needs) returns-8 returns-9)
