@@ -28,6 +28,7 @@
 #define MAPS 5           /* maps of a kind */
 #define KEYS 16
 #define ROW 67           /* words of a key's row */
+#define TALKERS 8        /* pairs that send long messages: sources 0 to 7, to 39 */
 #define FIRST_8 1        /* the message k of the first map of a kind, all of them from 38 to 39; these in `box`, */
 #define FIRST_30 6
 #define FIRST_64 1       /* these in `wide_box` */
@@ -61,6 +62,9 @@ static uint32_t asked_spns[FRAMES], asked_numbers[FRAMES];
 static uint8_t requests[FRAMES][8];       /* the data of Parameter Locates */
 static uint8_t saved_image[YENDROLF_IMAGE_BYTES], damaged_image[YENDROLF_IMAGE_BYTES];   /* of `box` */
 static size_t saved_size;
+static yendrolf_sessions talk;
+static const uint8_t asking[8] = { 16, 0xf9, 0x06, 255, 255, 0x00, 0xb2, 0x00 };   /* a request to send 1,785 bytes */
+static uint8_t packets[256][8];           /* by their number */
 
 /* What pack and read find, the same for each run; 1 fits every width. */
 static void fill(void)
@@ -69,6 +73,14 @@ static void fill(void)
         numbers[i] = 1;
     memset(payload, 0, sizeof payload);
     memset(states, 0, sizeof states);
+}
+
+/* Eight sessions that wait for packet 1 of 255, in the order of their rows. */
+static void start_talk(void)
+{
+    yendrolf_start_sessions(&talk);
+    for (uint32_t pair = 0; pair < TALKERS; pair++)
+        yendrolf_request(&talk, 0x1cec2700u | pair, 8, asking);
 }
 
 #define MEASURED __attribute__((unused)) static
@@ -135,6 +147,9 @@ static const struct test {
     { "load, damaged at the end", 800, BUILT(damaged) },
     { "body of a key in an image of 10", 800, BUILT(body) },
     { "row of an image of 10", 800, BUILT(row) },
+    { "request to send", 1600000, BUILT(request) },
+    { "a packet", 1600000, BUILT(packet) },
+    { "the last packet of 1,785 bytes", 200000, BUILT(last_packet) },
 };
 
 static double seconds(void)
@@ -379,6 +394,14 @@ static void prepare(void)
         uint8_t data[8] = { (uint8_t)spn, (uint8_t)(spn >> 8), (uint8_t)((spn >> 16) << 5 | 31), 255, 255, 255, 255, 0 };
         memcpy(requests[i], data, sizeof data);
     }
+    for (unsigned i = 0; i < 256; i++) {   /* what packets carry */
+        packets[i][0] = (uint8_t)i;
+        for (unsigned j = 1; j < 8; j++)
+            packets[i][j] = (uint8_t)any();
+    }
+    start_talk();
+    if (yendrolf_packet(&talk, 0x1ceb2707u, 8, packets[1], payload).told.number != 0)
+        fail("a packet was refused");
 }
 
 /* Sorts them. */
@@ -440,8 +463,8 @@ int main(int argc, char **argv)
     for (size_t t = 0; t < sizeof tests / sizeof tests[0]; t++)
         measure(&tests[t], part ? part : 1);
     printf("\n%s. Processor time, medians of %d runs that take turns, in one process. The %llu SPNs were drawn evenly from the dictionary's %zu rows\n"
-        "(mean row %.0f), but for those of the maps with odd widths. State: %zu bytes (table %zu, filters %zu), the same for all.\n",
+        "(mean row %.0f), but for those of the maps with odd widths. State: %zu bytes (table %zu, filters %zu) and %zu of sessions, the same for all.\n",
         argc > 1 ? argv[1] : "", RUNS, (unsigned long long)rows_drawn, ENTRIES, (double)rows_sum / (double)rows_drawn, sizeof(yendrolf_box), sizeof box.table,
-        sizeof box.filters);
+        sizeof box.filters, sizeof talk);
     return 0;
 }

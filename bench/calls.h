@@ -245,5 +245,50 @@ MEASURED uint64_t TEST(damaged)(uint64_t n)
     return sum;
 }
 
+/* Requests of eight pairs in turn; from the second on each replaces its pair's session. */
+MEASURED uint64_t TEST(request)(uint64_t n)
+{
+    uint64_t sum = 0;
+    CALL(sessions_fresh)(talk.heads);
+    for (uint64_t i = 0; i < n; i++)
+        sum += CALL(sessions_request)(talk.heads, 0x1cec2700u | (uint32_t)(i % TALKERS), 8, asking).number + talk.heads[i % YENDROLF_HEAD_WORDS];
+    return sum;
+}
+
+/* Packets 1 to 254 of eight sessions in turn. Then each session waits for packet 1 again, by its word of the next one, so that no payload is finished. */
+MEASURED uint64_t TEST(packet)(uint64_t n)
+{
+    uint64_t sum = 0;
+    uint32_t pair = 0, number = 1;
+    start_talk();
+    for (uint64_t i = 0; i < n; i++) {
+        sum += CALL(sessions_packet)(talk.heads, talk.bytes, payload, 0x1ceb2700u | pair, 8, packets[number]).told.number + talk.bytes[number];
+        if (++pair == TALKERS) {
+            pair = 0;
+            if (++number == 255) {
+                number = 1;
+                for (unsigned row = 0; row < TALKERS; row++)
+                    talk.heads[4 * row + 1] = 1;
+            }
+        }
+    }
+    return sum;
+}
+
+/* Packet 255 of eight sessions in turn; each session is made as it was before by its words of holder and next packet. */
+MEASURED uint64_t TEST(last_packet)(uint64_t n)
+{
+    uint64_t sum = 0;
+    start_talk();
+    for (uint64_t i = 0; i < n; i++) {
+        uint64_t pair = i % TALKERS, *row = &talk.heads[4 * pair];
+        row[0] = 1 + 256 * pair + 39;
+        row[1] = 255;
+        yendrolf_arrived got = CALL(sessions_packet)(talk.heads, talk.bytes, payload, 0x1ceb2700u | (uint32_t)pair, 8, packets[255]);
+        sum += got.told.detail + got.pgn + payload[i % sizeof payload];
+    }
+    return sum;
+}
+
 #undef CALL
 #undef TEST

@@ -38,5 +38,8 @@ yendrolf_told FAST(filters_add)(uint32_t *filters, uint8_t from, uint8_t to, uin
 yendrolf_told FAST(filters_delete)(uint32_t *filters, uint8_t from, uint8_t to, uint32_t pgn);
 yendrolf_told FAST(filters_renew)(uint32_t *filters, uint8_t from, uint8_t to, uint8_t mode);
 yendrolf_told FAST(filters_decide)(const uint32_t *filters, uint8_t from, uint8_t to, uint32_t identifier);
+void FAST(sessions_fresh)(uint64_t *heads);
+yendrolf_told FAST(sessions_request)(uint64_t *heads, uint32_t identifier, uint8_t length, const uint8_t *data);
+yendrolf_arrived FAST(sessions_packet)(uint64_t *heads, uint8_t *bytes, uint8_t *payload, uint32_t identifier, uint8_t length, const uint8_t *data);
 
 #endif

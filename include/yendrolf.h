@@ -1,6 +1,6 @@
 /* The box for C: learning Configuration Identification Messages, judging maps, packing and reading payloads, what a number means, the answer to a Parameter Locate,
- * the listing of a log, an image of what the box learned, and the filter of a bridge of four ports. examples/hitch.c has the calls at work; examples/socketcan.c is a
- * loop on Linux' CAN sockets.
+ * the listing of a log, an image of what the box learned, long messages put together from their packets, and the filter of a bridge of four ports. examples/hitch.c
+ * has the calls at work, examples/long.c those on long messages; examples/socketcan.c is a loop on Linux' CAN sockets.
  *
  * Link with the archive that `rt staticlib firmware` writes (target/staticlib/libfirmware.a). Every function of it is proved against its contract
  * (crates/firmware); this header is not: tests/header and tests/compare/run compare it with the archive.
@@ -14,9 +14,11 @@
  *
  * How to call it:
  * - Lend one yendrolf_box, which may stand anywhere that is aligned to 8. C aligns a variable by itself; a place inside other bytes is yours to align.
- * - Start with yendrolf_start. From then on change the box by these calls alone. (Any other words in it are answered too, and nothing traps.)
- * - No pointer may be null, and what a call may write must not overlap with anything else that is lent to the same call. A `data` has 8 bytes.
- * - One call at a time on one box. Two boxes do not know of each other.
+ *   The calls on long messages are lent a yendrolf_sessions in the same way, and no box.
+ * - Start with yendrolf_start, and sessions with yendrolf_start_sessions. From then on change them by these calls alone. (Any other words in them are answered too, and nothing traps.)
+ * - No pointer may be null, and what a call may write must not overlap with anything else that is lent to the same call. A `data` has 8 bytes, and the `payload` of
+ *   yendrolf_packet has 1,785, however long the message is.
+ * - One call at a time on one box, and on one yendrolf_sessions. Two boxes do not know of each other.
  * - A number is what its type can hold: C makes 1 of a port 257 before the library sees it. (-Wconversion tells.)
  * - The words of a box are the machine's own, so a box is no file format. An image is (docs/IMAGE.md): keep that across power cycles, and load it into the next box.
  * - An identifier is the 29 bits and nothing else. SocketCAN has flags above them: give `can_id & CAN_EFF_MASK`, and give only frames with CAN_EFF_FLAG and
@@ -26,7 +28,8 @@
  * - Forget a key after answer 10: it stays in conflict, and no later message mends it; its sender has to say the whole map again. And forget every key
  *   that has an address, as source or as destination, when the address changed hands: what is held was another's map (SAE J1939-74, 5.2.3).
  *
- * Every answer's number is one of enum yendrolf_answer. A refusal, which is any number but 0 and 10, changes nothing; 10 changes its key's mark alone.
+ * Every answer's number is one of enum yendrolf_answer. A refusal, which is any number but 0 and 10, changes nothing, but for 29, which drops its own session; 10
+ * changes its key's mark alone.
  */
 #ifndef YENDROLF_H
 #define YENDROLF_H
@@ -52,7 +55,7 @@ extern "C" {
 enum yendrolf_answer {
     YENDROLF_DONE = 0,
     YENDROLF_BAD_IDENTIFIER = 1,        /* identifier above 2^29 - 1 */
-    YENDROLF_OTHER_PGN = 2,             /* PGN is not the Configuration Identification PGN; of locate, not 44800 */
+    YENDROLF_OTHER_PGN = 2,             /* PGN is not the Configuration Identification PGN; of locate, not 44800; of request, not 60416; of packet, not 60160 */
     YENDROLF_BAD_LENGTH = 3,            /* length is not 8 */
     YENDROLF_BAD_SOURCE = 4,            /* source 254 or 255 */
     YENDROLF_NOT_CONFIGURABLE = 5,      /* configured PGN not one of the fifteen */
@@ -74,7 +77,11 @@ enum yendrolf_answer {
     YENDROLF_DAMAGED = 21,              /* these bytes are no image */
     YENDROLF_NOT_IN_IMAGE = 22,         /* key or row not in the image */
     YENDROLF_NOT_EMPTY = 23,            /* the table to load into holds a key */
-    YENDROLF_BAD_COMMAND = 24           /* a command byte that is not 0 */
+    YENDROLF_BAD_COMMAND = 24,          /* of locate, a command byte that is not 0; of request, a control byte that is not 16 */
+    YENDROLF_NO_SESSION = 28,           /* a packet of a pair, source and destination, that has no session */
+    YENDROLF_OUT_OF_SEQUENCE = 29,      /* not the packet that comes next: its session is dropped */
+    YENDROLF_SESSIONS_FULL = 30,        /* all eight sessions are taken by other pairs */
+    YENDROLF_BAD_SIZE = 31              /* size outside 9 to 1785, or not matching its packet count */
 };
 
 /* The judgement of a map: the first of these from 1 on, in this order, that applies, with the lowest position that it applies to (0 where it is about no position); 0 where none does. A
@@ -135,6 +142,11 @@ enum yendrolf_size {
     YENDROLF_LISTING_BYTES = 512,       /* enough for any listing */
     YENDROLF_LOCATE_BYTES = 208,        /* enough for any answer to a Parameter Locate: a record for each of 16 keys */
     YENDROLF_IMAGE_BYTES = 2594,        /* enough for any image: 16 keys with 31 parameters each, which is as much as messages can teach */
+    YENDROLF_MOST_SESSIONS = 8,         /* long messages under way at one time */
+    YENDROLF_HEAD_WORDS = 32,           /* head words of the sessions */
+    YENDROLF_HELD_BYTES = 14280,        /* payload bytes of the sessions, YENDROLF_MOST_BYTES for each */
+    YENDROLF_SESSIONS_BYTES = 14536,    /* bytes of a yendrolf_sessions */
+    YENDROLF_PACKET_BYTES = 7,          /* payload bytes of a packet */
     YENDROLF_STACK_BYTES = 14200        /* stack of any call at most */
 };
 
@@ -143,6 +155,12 @@ typedef struct {
     uint64_t table[YENDROLF_TABLE_WORDS];
     uint32_t filters[YENDROLF_FILTER_WORDS];
 } yendrolf_box;
+
+/* What is kept of long messages while their packets come. */
+typedef struct {
+    uint64_t heads[YENDROLF_HEAD_WORDS];
+    uint8_t bytes[YENDROLF_HELD_BYTES];
+} yendrolf_sessions;
 
 /* An answer: `number` is of enum yendrolf_answer, `judgement` of enum yendrolf_judgement. The detail is 0 unless the call says otherwise; judgement and
    position are 0 but for 12 and for 0 of judging. */
@@ -196,6 +214,12 @@ typedef struct {
     uint32_t k;
 } yendrolf_row;
 
+/* What a packet is answered: `pgn` is that of the payload which it finished, and 0 where it finished none. */
+typedef struct {
+    yendrolf_told told;
+    uint32_t pgn;
+} yendrolf_arrived;
+
 /* A held key, or that there is none: `held` is 1 or 0, and the others are 0 with it. */
 typedef struct {
     uint8_t held;
@@ -224,6 +248,9 @@ YENDROLF_CHECK(pointer, sizeof(void *) == 8);
 YENDROLF_CHECK_STRUCT(box, YENDROLF_BOX_BYTES);
 YENDROLF_CHECK_FIELD(box, table, 0, 8576);
 YENDROLF_CHECK_FIELD(box, filters, 8576, 1632);
+YENDROLF_CHECK_STRUCT(sessions, YENDROLF_SESSIONS_BYTES);
+YENDROLF_CHECK_FIELD(sessions, heads, 0, 256);
+YENDROLF_CHECK_FIELD(sessions, bytes, 256, 14280);
 YENDROLF_CHECK_STRUCT(told, 16);
 YENDROLF_CHECK_FIELD(told, number, 0, 4);
 YENDROLF_CHECK_FIELD(told, detail, 4, 4);
@@ -255,6 +282,9 @@ YENDROLF_CHECK_FIELD(row, length, 24, 8);
 YENDROLF_CHECK_FIELD(row, source, 32, 4);
 YENDROLF_CHECK_FIELD(row, destination, 36, 4);
 YENDROLF_CHECK_FIELD(row, k, 40, 4);
+YENDROLF_CHECK_STRUCT(arrived, 20);
+YENDROLF_CHECK_FIELD(arrived, told, 0, 16);
+YENDROLF_CHECK_FIELD(arrived, pgn, 16, 4);
 YENDROLF_CHECK_STRUCT(key, 4);
 YENDROLF_CHECK_FIELD(key, held, 0, 1);
 YENDROLF_CHECK_FIELD(key, source, 1, 1);
@@ -270,8 +300,9 @@ YENDROLF_CHECK_FIELD(log, carry, 32, 13);
 #undef YENDROLF_CHECK_STRUCT
 #undef YENDROLF_CHECK
 
-/* ---- NOT TO BE CALLED: the functions of the archive, each on one part of a box. The calls below have their names without `table_` and `filters_`, take the box,
-   and pass the right part of it; called directly, nothing stops a wrong or a short one. */
+/* ---- NOT TO BE CALLED: the functions of the archive, each on one part of a box or of the sessions. The calls below have their names without `table_`, `filters_` and
+   `sessions_` (but yendrolf_start_sessions, since yendrolf_fresh is of the filters), take the box or the sessions, and pass the right part of it; called directly,
+   nothing stops a wrong or a short one. */
 void yendrolf_table_empty(uint64_t *table);
 yendrolf_told yendrolf_table_learn(uint64_t *table, uint32_t identifier, uint8_t length, const uint8_t *data);
 yendrolf_told yendrolf_table_forget(uint64_t *table, uint8_t source, uint8_t destination, uint8_t k);
@@ -297,6 +328,9 @@ yendrolf_told yendrolf_filters_add(uint32_t *filters, uint8_t from, uint8_t to, 
 yendrolf_told yendrolf_filters_delete(uint32_t *filters, uint8_t from, uint8_t to, uint32_t pgn);
 yendrolf_told yendrolf_filters_renew(uint32_t *filters, uint8_t from, uint8_t to, uint8_t mode);
 yendrolf_told yendrolf_filters_decide(const uint32_t *filters, uint8_t from, uint8_t to, uint32_t identifier);
+void yendrolf_sessions_fresh(uint64_t *heads);
+yendrolf_told yendrolf_sessions_request(uint64_t *heads, uint32_t identifier, uint8_t length, const uint8_t *data);
+yendrolf_arrived yendrolf_sessions_packet(uint64_t *heads, uint8_t *bytes, uint8_t *payload, uint32_t identifier, uint8_t length, const uint8_t *data);
 
 /* ---- TO BE CALLED, from here on. */
 
@@ -488,6 +522,35 @@ static inline void yendrolf_start(yendrolf_box *box)
 {
     yendrolf_empty(box);
     yendrolf_fresh(box);
+}
+
+/* ---- long messages (the transport protocol of SAE J1939-21): a payload of 9 to 1,785 bytes that comes as a request to send and packets of 7 bytes. A pair is a source and a
+   destination; it has one session at a time, and eight pairs have one at the same time. Both calls may be given every frame of the wires: they answer 2 to what is not theirs. Nothing is sent,
+   and no time is kept: what a sender is told is the caller's to say. A session whose sender fell silent keeps its room until its pair goes on or begins again; a caller that keeps time ends it by a
+   packet of that pair with number 0 (answer 29), and all of them by yendrolf_start_sessions. */
+
+/* Nobody has a session. The bytes of the sessions may hold anything. */
+static inline void yendrolf_start_sessions(yendrolf_sessions *sessions)
+{
+    yendrolf_sessions_fresh(sessions->heads);
+}
+
+/* Takes a frame that may be a request to send (PGN 60416): data byte 1 is 16, bytes 2 and 3 are the size, byte 4 the number of packets, bytes 6 to 8 the PGN of the payload, the least
+   significant first. 1; 2; 3; 24 where byte 1 is not 16, as that of a broadcast (32) or an abort (255); 31 where the size is outside 9 to 1,785 or is not carried by so many packets; 30 where
+   the pair has no session and eight others have; or 0, and the pair's session begins, in place of the one that it had. A refused request leaves that one. */
+static inline yendrolf_told yendrolf_request(yendrolf_sessions *sessions, uint32_t identifier, uint8_t length, const uint8_t *data)
+{
+    return yendrolf_sessions_request(sessions->heads, identifier, length, data);
+}
+
+/* Takes a frame that may be a packet (PGN 60160): data byte 1 is its number, from 1 on, and seven bytes of the payload follow. 1; 2; 3; 28 where the pair has no session; 29 where it is not the
+   packet that comes next, as one that comes twice: the session is dropped, and its sender has to begin with a request again; or 0. With the last packet the payload is laid over the start of
+   `payload`, the detail is its size and `pgn` its PGN, and the session ends; bytes past the size keep what they held. Every other answer leaves `payload`, and has detail and `pgn`
+   0: a payload is there exactly where the detail is not 0. A configured message is then read by its key: source and destination are those of the identifier, and k is (pgn - 45056) / 256 where
+   `pgn` is one of 45312, 45568 .. 48896. */
+static inline yendrolf_arrived yendrolf_packet(yendrolf_sessions *sessions, uint32_t identifier, uint8_t length, const uint8_t *data, uint8_t *payload)
+{
+    return yendrolf_sessions_packet(sessions->heads, sessions->bytes, payload, identifier, length, data);
 }
 
 #ifdef __cplusplus

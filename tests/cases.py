@@ -1,4 +1,4 @@
-"""What the programs `vectors`, `runs`, `meanings`, `locates` and `images` are run on, and what the model says they must write."""
+"""What the programs `vectors`, `runs`, `meanings`, `locates`, `images` and `transports` are run on, and what the model says they must write."""
 import images
 import keys
 import lists
@@ -7,6 +7,7 @@ import logs
 import meanings
 import pairs
 import rooms
+import transports
 from dice import Dice
 
 
@@ -17,6 +18,7 @@ def files():
     yield from written("meanings", [*meanings.cases(Dice(71))])
     yield from written("locates", [*locates.cases(Dice(44800))])
     yield from written("images", [*images.cases(Dice(21))])
+    yield from written("transports", transports.cases(Dice(60416)))
 
 
 def written(program, cases):

@@ -12,7 +12,7 @@ static uint32_t answer_or_judgement(yendrolf_told told)
     case YENDROLF_BAD_FLAG: case YENDROLF_BAD_POSITION: case YENDROLF_BAD_START: case YENDROLF_TABLE_FULL: case YENDROLF_CONTRADICTED:
     case YENDROLF_NOT_HELD: case YENDROLF_BAD_BUFFER: case YENDROLF_TOO_WIDE: case YENDROLF_BAD_PORTS: case YENDROLF_LIST_FULL: case YENDROLF_BAD_PGN:
     case YENDROLF_NOT_LISTED: case YENDROLF_BAD_MODE: case YENDROLF_LIST_NOT_EMPTY: case YENDROLF_DAMAGED: case YENDROLF_NOT_IN_IMAGE: case YENDROLF_NOT_EMPTY:
-    case YENDROLF_BAD_COMMAND: return told.number;
+    case YENDROLF_BAD_COMMAND: case YENDROLF_NO_SESSION: case YENDROLF_OUT_OF_SEQUENCE: case YENDROLF_SESSIONS_FULL: case YENDROLF_BAD_SIZE: return told.number;
     case YENDROLF_NOT_USABLE: break;
     default: return 0;
     }
@@ -73,6 +73,39 @@ static uint32_t saved_rows(void)
     if (row != 0 && yendrolf_load(&swapped, image, size).number != YENDROLF_NOT_EMPTY)
         return 99;
     return (uint32_t)row;
+}
+
+/* A request to send twelve bytes and their two packets, given in three orders: the size of what came out at last, or 99. */
+static uint32_t long_message(void)
+{
+    static yendrolf_sessions sessions;
+    static uint8_t payload[YENDROLF_MOST_BYTES];
+    static const uint8_t asks[YENDROLF_FRAME_BYTES] = { 16, 12, 0, 2, 255, 0x00, 0xb2, 0x00 };
+    static const uint8_t one[YENDROLF_FRAME_BYTES] = { 1, 10, 11, 12, 13, 14, 15, 16 };
+    static const uint8_t two[YENDROLF_FRAME_BYTES] = { 2, 17, 18, 19, 20, 21, 255, 255 };
+    yendrolf_start_sessions(&sessions);
+    if (answer_or_judgement(yendrolf_packet(&sessions, 0x1ceb2726, YENDROLF_FRAME_BYTES, one, payload).told) != YENDROLF_NO_SESSION)
+        return 99;
+    if (yendrolf_request(&sessions, 0x1cec2726, YENDROLF_FRAME_BYTES, one).number != YENDROLF_BAD_COMMAND)
+        return 99;
+    if (yendrolf_request(&sessions, 0x1cec2726, YENDROLF_FRAME_BYTES, asks).number != YENDROLF_DONE)
+        return 99;
+    if (yendrolf_packet(&sessions, 0x1ceb2726, YENDROLF_FRAME_BYTES, two, payload).told.number != YENDROLF_OUT_OF_SEQUENCE)
+        return 99;
+    for (uint32_t source = 1; source <= YENDROLF_MOST_SESSIONS; source++)   /* eight others, and one more */
+        if (yendrolf_request(&sessions, 0x1cec2700 | source, YENDROLF_FRAME_BYTES, asks).number != YENDROLF_DONE)
+            return 99;
+    if (yendrolf_request(&sessions, 0x1cec2726, YENDROLF_FRAME_BYTES, asks).number != YENDROLF_SESSIONS_FULL)
+        return 99;
+    yendrolf_start_sessions(&sessions);
+    if (yendrolf_request(&sessions, 0x1cec2726, YENDROLF_FRAME_BYTES, asks).number != YENDROLF_DONE)
+        return 99;
+    if (yendrolf_packet(&sessions, 0x1ceb2726, YENDROLF_FRAME_BYTES, one, payload).told.detail != 0 || payload[0] != 0)
+        return 99;
+    yendrolf_arrived arrived = yendrolf_packet(&sessions, 0x1ceb2726, YENDROLF_FRAME_BYTES, two, payload);
+    if (arrived.told.number != YENDROLF_DONE || arrived.pgn != 45568 || payload[0] != 10 || payload[YENDROLF_PACKET_BYTES] != 17 || payload[11] != 21 || payload[12] != 0)
+        return 99;
+    return sizeof sessions == YENDROLF_SESSIONS_BYTES ? arrived.told.detail : 99;
 }
 
 /* Whether 19 bits (SPN 3147) lie as an SPN does in SAE J1939-74, 5.3.2, and are judged YENDROLF_UNEVEN where they start at bit 1. */
@@ -138,12 +171,16 @@ int main(void)
     log = yendrolf_feed(&box, log, record, sizeof record);
     sum += (uint32_t)(log.records + log.refused + log.other + log.left) + log.carry[0];
     sum += answer_or_judgement(yendrolf_finish(&box, log, text, sizeof text));
+    if (long_message() != 12)
+        return 1;
     sum += answer_or_judgement(yendrolf_add(&box, 1, YENDROLF_PORTS, 65251));
     sum += answer_or_judgement(yendrolf_delete(&box, 1, YENDROLF_PORTS, 65251));
     sum += answer_or_judgement(yendrolf_renew(&box, 1, 2, YENDROLF_BLOCK_ALL_BUT));
     sum += answer_or_judgement(yendrolf_renew(&box, 1, 2, YENDROLF_PASS_ALL_BUT));
     yendrolf_told decided = yendrolf_decide(&box, 1, 2, 0x18fee300);
     if (decided.number != YENDROLF_DONE || decided.detail == YENDROLF_BLOCK || decided.detail != YENDROLF_PASS)
+        return 1;
+    if (YENDROLF_HELD_BYTES != YENDROLF_MOST_SESSIONS * YENDROLF_MOST_BYTES || YENDROLF_HEAD_WORDS % YENDROLF_MOST_SESSIONS != 0)
         return 1;
     return held > YENDROLF_MOST_KEYS || sum == 0 || sizeof box != YENDROLF_BOX_BYTES || YENDROLF_MOST_LISTED > YENDROLF_STACK_BYTES;
 }

@@ -1,6 +1,6 @@
 /* compare CALLS SEED: makes CALLS calls of the Rattle library (include/yendrolf.h) and of plain.c on the same inputs, and compares every answer, every
    buffer, and what the box means afterwards. The inputs come from SEED alone: few keys, SPNs, starts and PGNs, so that conflicts, full tables, usable
-   maps and every answer are frequent; the counts at the end show it. At the first difference it prints the seed and the call, and ends with 1. */
+   maps and every answer are frequent, and twelve pairs that send long messages at once; the counts at the end show it. At the first difference it prints the seed and the call, and ends with 1. */
 #include <inttypes.h>
 #include <stdio.h>
 #include <stdlib.h>
@@ -41,10 +41,10 @@ static yendrolf_box before;           /* the library's before the call */
 
 static uint64_t seed, calls, checks;
 
-enum call { LEARN, FORGET, COUNT, JUDGE, PACK, READ, FIND, PARAMETER, LOCATE, MEANING, SCALED, KEYS, ADD, DELETE, RENEW, DECIDE, LIST, SAVE, LOAD, BODY, ROW, KINDS };
+enum call { LEARN, FORGET, COUNT, JUDGE, PACK, READ, FIND, PARAMETER, LOCATE, MEANING, SCALED, KEYS, ADD, DELETE, RENEW, DECIDE, LIST, SAVE, LOAD, BODY, ROW, REQUEST, PACKET, KINDS };
 static const char *const call_names[KINDS] = { "learn", "forget", "count", "judge", "pack", "read", "find", "parameter", "locate", "meaning", "scaled", "next key", "add",
-    "delete", "renew", "decide", "listing", "save", "load", "body", "row" };
-#define LAST_ANSWER 24
+    "delete", "renew", "decide", "listing", "save", "load", "body", "row", "request", "packet" };
+#define LAST_ANSWER 31
 static uint64_t answers[KINDS][LAST_ANSWER + 1], kinds[KINDS];
 static uint64_t judgements[2][10];    /* of judging, and of answer 12 */
 static uint64_t pass_or_block[2], longest, most_numbers;
@@ -56,6 +56,8 @@ static uint64_t located[17];          /* answers to a Parameter Locate, by their
 static uint64_t saved[17];            /* images, by their rows */
 static uint64_t turned_bits, cuts, longer_images, reworked, still_images;   /* images that were damaged, and how many were images all the same */
 static uint64_t swaps, longest_image;
+static uint64_t finished, cut_up, of_255, longest_message;   /* long messages that came out, and those of them that were compared with what a sender cut up */
+static uint64_t replaced, carried, strange_calls;   /* sessions that a request of their own pair ended, configured messages that came as packets and were read, and calls on head words that no calls make */
 static uint64_t odd_packed, in_skipped;   /* numbers packed that have an odd width, and that stand in the bits which one skips */
 static uint64_t looked_back;          /* judgements 6 that the position before does not earn */
 static uint64_t uneven_images;        /* images with an odd width off its multiple of 8 */
@@ -439,10 +441,15 @@ static struct intended any_key(void)
     return m;
 }
 
+static void say_frame(const char *what, struct frame f)
+{
+    snprintf(told_call, sizeof told_call, "%s %08" PRIx32 " %u  %02x %02x %02x %02x %02x %02x %02x %02x", what, f.identifier, f.length, f.data[0], f.data[1], f.data[2], f.data[3],
+        f.data[4], f.data[5], f.data[6], f.data[7]);
+}
+
 static void learn(struct frame f)
 {
-    snprintf(told_call, sizeof told_call, "learn %08" PRIx32 " %u  %02x %02x %02x %02x %02x %02x %02x %02x", f.identifier, f.length, f.data[0], f.data[1],
-        f.data[2], f.data[3], f.data[4], f.data[5], f.data[6], f.data[7]);
+    say_frame("learn", f);
     yendrolf_told a = yendrolf_learn(&box, f.identifier, f.length, f.data);
     same(LEARN, a, plain_learn(&plain, f.identifier, f.length, f.data));
     if (a.number == 10)
@@ -548,19 +555,25 @@ static void count_odd(const struct intended *m)
     }
 }
 
-static void pack(struct intended m)
+/* Numbers that a map's widths hold, for each position and further places. */
+static void draw_numbers(const struct intended *m, uint32_t numbers[PLACES])
 {
-    static uint8_t one[BUFFER], two[BUFFER];
-    uint32_t numbers[PLACES];
-    unsigned count = one_in(12) ? m.n + 1 : one_in(12) ? m.n - 1 : one_in(30) ? below(PLACES) : m.n;
     for (unsigned i = 0; i < PLACES; i++) {
-        unsigned width = i < m.n ? plain_width(m.spn[i + 1]) : 8;
+        unsigned width = i < m->n ? plain_width(m->spn[i + 1]) : 8;
         numbers[i] = width >= 32 ? any() : any() & ((1u << width) - 1);
         if (one_in(8))
             numbers[i] = width >= 32 ? 0xffffffff : (1u << width) - 1;
         if (width >= 8 && one_in(4))
             numbers[i] = edge(width);
     }
+}
+
+static void pack(struct intended m)
+{
+    static uint8_t one[BUFFER], two[BUFFER];
+    uint32_t numbers[PLACES];
+    unsigned count = one_in(12) ? m.n + 1 : one_in(12) ? m.n - 1 : one_in(30) ? below(PLACES) : m.n;
+    draw_numbers(&m, numbers);
     if (one_in(6)) {
         unsigned i = below(m.n), width = plain_width(m.spn[i + 1]);
         numbers[i] = one_in(2) ? any() : width >= 32 ? 0 : 1u << width;
@@ -1258,6 +1271,496 @@ static void swap(void)
     }
 }
 
+/* ---- long messages: twelve pairs talk at once, and there are eight sessions */
+
+#define GUARD 64
+#define TALKERS 12
+
+/* What is lent, with bytes around it that no call may touch. */
+struct lent {
+    uint8_t front[GUARD];
+    yendrolf_sessions sessions;
+    uint8_t behind[GUARD];
+    uint8_t payload[YENDROLF_MOST_BYTES];
+    uint8_t end[GUARD];
+};
+static struct lent lent, lent_before;
+static struct plain_sessions plain_lent;
+static uint8_t plain_payload[YENDROLF_MOST_BYTES];
+
+/* Who sends long messages from one address to another. */
+struct talker {
+    uint8_t source, destination;
+    unsigned size, sent;              /* of the payload under way, and how many of its packets went out */
+    uint32_t pgn;
+    int whole;                        /* the request was taken, and each packet since came once and in order */
+    uint8_t payload[YENDROLF_MOST_BYTES];
+};
+static struct talker talkers[TALKERS];
+static unsigned talking;              /* how many of them there are in this talk */
+static unsigned noise;                /* one frame in so many is not as it should be */
+static int lengthy;                   /* payloads of any size, else of a few packets */
+
+static unsigned packets_of(unsigned size)
+{
+    return (size + 6) / 7;
+}
+
+/* What a call may have changed at the most: so many words and bytes, of one session alone; and nothing around what is lent. */
+static void changed_at_most(unsigned words, unsigned bytes)
+{
+    const yendrolf_sessions *now = &lent.sessions, *then = &lent_before.sessions;
+    unsigned changed = 0, row = YENDROLF_MOST_SESSIONS;
+    for (unsigned i = 0; i < YENDROLF_HEAD_WORDS; i++)
+        if (now->heads[i] != then->heads[i]) {
+            changed++;
+            if (row != YENDROLF_MOST_SESSIONS && row != i / 4)
+                differ("the words of two sessions changed");
+            row = i / 4;
+        }
+    if (changed > words)
+        differ("more words changed than the answer says");
+    if (memcmp(now->bytes, then->bytes, sizeof now->bytes) != 0) {
+        changed = 0;
+        for (unsigned i = 0; i < YENDROLF_HELD_BYTES; i++)
+            if (now->bytes[i] != then->bytes[i]) {
+                changed++;
+                if (row != YENDROLF_MOST_SESSIONS && row != i / YENDROLF_MOST_BYTES)
+                    differ("the bytes of another session changed");
+                row = i / YENDROLF_MOST_BYTES;
+            }
+        if (changed > bytes)
+            differ("more bytes changed than the answer says");
+    }
+    if (memcmp(lent.front, lent_before.front, GUARD) != 0 || memcmp(lent.behind, lent_before.behind, GUARD) != 0 || memcmp(lent.end, lent_before.end, GUARD) != 0)
+        differ("a call wrote past what it was lent");
+}
+
+static yendrolf_told ask_to_send(struct frame f)
+{
+    say_frame("request", f);
+    memcpy(&lent_before, &lent, sizeof lent);
+    yendrolf_told a = yendrolf_request(&lent.sessions, f.identifier, f.length, f.data);
+    same(REQUEST, a, plain_request(&plain_lent, f.identifier, f.length, f.data));
+    changed_at_most(a.number == 0 ? 4 : 0, 0);
+    if (memcmp(lent.payload, plain_payload, sizeof lent.payload) != 0)
+        differ("a request changed the payload");
+    return a;
+}
+
+static yendrolf_arrived bring(struct frame f)
+{
+    say_frame("packet", f);
+    memcpy(&lent_before, &lent, sizeof lent);
+    yendrolf_arrived a = yendrolf_packet(&lent.sessions, f.identifier, f.length, f.data, lent.payload);
+    struct plain_arrived b = plain_packet(&plain_lent, f.identifier, f.length, f.data, plain_payload);
+    same(PACKET, a.told, b.answer);
+    if (a.pgn != b.pgn)
+        differ("the PGN of the payload");
+    if (memcmp(lent.payload, plain_payload, sizeof lent.payload) != 0)
+        differ("the payload");
+    if (a.told.number == 0)
+        changed_at_most(1, 7);
+    else   /* every refusal leaves all words and bytes, but 29, which drops its session by a word */
+        changed_at_most(a.told.number == 29, 0);
+    if (a.told.number == 0 && a.told.detail > 0) {
+        finished++;
+        if (a.told.detail > longest_message)
+            longest_message = a.told.detail;
+        of_255 += f.data[0] == 255;
+    }
+    return a;
+}
+
+/* Nobody has a session, whatever the words were; the bytes stay. */
+static void start_talk(void)
+{
+    snprintf(told_call, sizeof told_call, "start the sessions");
+    memcpy(&lent_before, &lent, sizeof lent);
+    yendrolf_start_sessions(&lent.sessions);
+    plain_start_sessions(&plain_lent);
+    memcpy(lent_before.sessions.heads, lent.sessions.heads, sizeof lent.sessions.heads);
+    changed_at_most(0, 0);
+    for (unsigned i = 0; i < TALKERS; i++)
+        talkers[i].whole = 0;
+}
+
+static struct frame frame_from(const struct talker *t, uint32_t pf)
+{
+    struct frame f;
+    f.identifier = below(8) << 26 | pf << 16 | (uint32_t)t->destination << 8 | t->source;
+    f.length = 8;
+    memset(f.data, 255, sizeof f.data);
+    return f;
+}
+
+static struct frame request_of(const struct talker *t)
+{
+    struct frame f = frame_from(t, 0xec);
+    f.data[0] = 16;
+    f.data[1] = (uint8_t)t->size;
+    f.data[2] = (uint8_t)(t->size >> 8);
+    f.data[3] = (uint8_t)packets_of(t->size);
+    if (one_in(3))   /* no document looks at byte 5 */
+        f.data[4] = (uint8_t)any();
+    f.data[5] = (uint8_t)t->pgn;
+    f.data[6] = (uint8_t)(t->pgn >> 8);
+    f.data[7] = (uint8_t)(t->pgn >> 16);
+    return f;
+}
+
+/* Packet `number` of a payload; behind its end FFh, or now and then anything. */
+static struct frame packet_of(const struct talker *t, unsigned number)
+{
+    struct frame f = frame_from(t, 0xeb);
+    f.data[0] = (uint8_t)number;
+    for (unsigned i = 0; i < 7; i++) {
+        if (number > 0 && 7 * (number - 1) + i < t->size)
+            f.data[1 + i] = t->payload[7 * (number - 1) + i];
+        else if (one_in(4))
+            f.data[1 + i] = (uint8_t)any();
+    }
+    return f;
+}
+
+/* A talker asks to send a payload, in place of the one that may be under way. */
+static void begin(struct talker *t)
+{
+    static const unsigned few[] = { 9, 10, 13, 14, 15, 20, 21, 22 }, many[] = { 9, 1771, 1777, 1778, 1779, 1784, 1785, 1785 };
+    if (one_in(2))
+        t->size = lengthy ? PICK(many) : PICK(few);
+    else
+        t->size = 9 + below(lengthy ? 1777 : 60);
+    for (unsigned i = 0; i < t->size; i++)
+        t->payload[i] = (uint8_t)any();
+    t->pgn = one_in(2) ? 45056 + 256 * (1 + below(15)) : any() & 0xffffff;
+    t->sent = 0;
+    replaced += t->whole;
+    t->whole = ask_to_send(request_of(t)).number == 0;
+}
+
+/* A packet of a talker comes. Where all before it came in order, it is taken, and the last one brings what the talker cut up. */
+static void send_packet(struct talker *t, unsigned number)
+{
+    yendrolf_arrived a = bring(packet_of(t, number));
+    if (number != t->sent + 1) {   /* out of sequence: whatever session it had is dropped */
+        t->whole = 0;
+        return;
+    }
+    t->sent = number;
+    if (!t->whole)
+        return;
+    int last = number == packets_of(t->size);
+    if (a.told.number != 0 || a.told.detail != (last ? t->size : 0))
+        differ("a packet in its order is not taken");
+    if (last && (a.pgn != t->pgn || memcmp(lent.payload, t->payload, t->size) != 0))
+        differ("what came out is not what was cut up");
+    if (last) {
+        cut_up++;
+        t->whole = 0;   /* the session ended */
+        fill_bytes(lent.payload, plain_payload, sizeof lent.payload);
+    }
+}
+
+/* A packet is lost, comes twice, comes after the next one, or has another number. */
+static void slip(struct talker *t)
+{
+    switch (below(5)) {
+    case 0:
+        t->sent++;
+        t->whole = 0;
+        break;
+    case 1:
+        send_packet(t, t->sent);
+        break;
+    case 2:
+        send_packet(t, t->sent + 2);
+        send_packet(t, t->sent + 1);
+        break;
+    case 3:
+        send_packet(t, 0);
+        break;
+    default:
+        send_packet(t, below(256));
+        break;
+    }
+}
+
+/* A frame that no talker means: the session of its pair, if it changed, is no longer as a talker thinks. Whether a talker has that pair. */
+static int meant_by_nobody(struct frame f, unsigned number)
+{
+    int known = 0;
+    for (unsigned i = 0; i < TALKERS; i++)
+        if (talkers[i].source == (f.identifier & 0xff) && talkers[i].destination == (f.identifier >> 8 & 0xff)) {
+            known = 1;
+            if (number == 0 || number == 29)
+                talkers[i].whole = 0;
+        }
+    return known;
+}
+
+/* A frame that is wrong in one way or in several: every control byte, sizes and packet counts beside the right ones, other PGNs, lengths and addresses, and identifiers that are none. */
+static void stray(const struct talker *t)
+{
+    static const unsigned sizes[] = { 0, 1, 7, 8, 8, 9, 1785, 1786, 1786, 1787, 1791, 1792, 1793, 2040, 65535 };
+    static uint8_t control;
+    int asks = one_in(2);
+    struct frame f = asks ? request_of(t) : packet_of(t, one_in(2) ? t->sent + 1 : below(256));
+    do {
+        unsigned size = PICK(sizes), packets = packets_of(size);
+        switch (below(10)) {
+        case 0:
+            f.identifier |= 1u << (29 + below(3));
+            break;
+        case 1:
+            f.identifier ^= 1u << (16 + below(10));
+            break;
+        case 2:
+            f.length = (uint8_t)(one_in(2) ? below(11) : below(256));
+            break;
+        case 3:
+        case 4:
+            f.data[0] = asks ? control++ : (uint8_t)any();
+            break;
+        case 5:
+            f.data[3] = (uint8_t)(f.data[3] + (one_in(2) ? 1 : one_in(2) ? 255 : below(256)));
+            break;
+        case 6:
+            f.data[1] = (uint8_t)size;
+            f.data[2] = (uint8_t)(size >> 8);
+            f.data[3] = (uint8_t)(one_in(3) ? packets + 1 : packets);
+            break;
+        case 7:
+            f.identifier ^= 1u << below(16);
+            break;
+        case 8:
+            f.identifier = (f.identifier & 0xffff0000) | (f.identifier & 0xff) << 8 | (f.identifier >> 8 & 0xff);
+            break;
+        default:
+            asks = !asks;
+            break;
+        }
+    } while (one_in(3));
+    if (!asks) {
+        meant_by_nobody(f, bring(f).told.number);
+        return;
+    }
+    unsigned number = ask_to_send(f).number;
+    if (!meant_by_nobody(f, number) && number == 0 && !one_in(6)) {   /* a session of nobody's: most of these are dropped again, or they would take all rooms */
+        f.identifier ^= 0x070000;
+        f.data[0] = 0;
+        if (bring(f).told.number != 29)
+            differ("packet 0 does not drop a session");
+    }
+}
+
+/* Who has a session: on copies of both sides each talker's pair brings packet 0, which no session takes. */
+static void check_sessions(void)
+{
+    static struct lent kept;
+    static struct plain_sessions plain_kept;
+    unsigned held = 0;
+    memcpy(&kept, &lent, sizeof kept);
+    plain_kept = plain_lent;
+    for (unsigned i = 0; i < TALKERS; i++) {
+        unsigned number = bring(packet_of(&talkers[i], 0)).told.number;
+        if (number != 28 && number != 29)
+            differ("packet 0 is taken");
+        if (talkers[i].whole && number != 29)
+            differ("a session that nothing ended is gone");
+        held += number == 29;
+    }
+    if (held > YENDROLF_MOST_SESSIONS)
+        differ("more sessions than there are");
+    memcpy(&lent, &kept, sizeof lent);
+    plain_lent = plain_kept;
+    checks++;
+}
+
+/* Head words that no calls make: few of what the layout (crates/transport/specs/Rows.antt) would have there, and any others. */
+static void lay_strange_heads(void)
+{
+    static const uint64_t nexts[] = { 0, 1, 2, 254, 255, 256, 257, 1u << 16 }, sizes[] = { 0, 1, 7, 8, 9, 14, 1785, 1786, 14280, 1ull << 32, (1ull << 32) + 9 };
+    for (unsigned i = 0; i < YENDROLF_MOST_SESSIONS; i++) {
+        const struct talker *t = &talkers[below(TALKERS)];
+        uint64_t *row = &lent.sessions.heads[4 * i], wild = (uint64_t)any() << 32;
+        row[0] = one_in(4) ? 0 : one_in(4) ? wild | 1 : 256u * t->source + t->destination + 1;
+        row[1] = one_in(6) ? wild | 1 : PICK(nexts);
+        row[2] = one_in(6) ? wild | any() : PICK(sizes);
+        row[3] = wild | any();
+    }
+}
+
+static int is_one_of(unsigned number, const unsigned *list, size_t count)
+{
+    for (size_t i = 0; i < count; i++)
+        if (list[i] == number)
+            return 1;
+    return 0;
+}
+
+static void strange_request(struct frame f)
+{
+    static const unsigned list[] = { 0, 1, 2, 3, 24, 30, 31 };
+    yendrolf_told a = yendrolf_request(&lent.sessions, f.identifier, f.length, f.data);
+    if (!is_one_of(a.number, list, sizeof list / sizeof list[0]) || a.detail || a.judgement || a.position)
+        differ("no answer to a request");
+    changed_at_most(a.number == 0 ? 4 : 0, 0);
+    if (memcmp(lent.payload, lent_before.payload, sizeof lent.payload) != 0)
+        differ("a request changed the payload");
+}
+
+static void strange_packet(struct frame f)
+{
+    static const unsigned list[] = { 0, 1, 2, 3, 28, 29 };
+    yendrolf_arrived a = yendrolf_packet(&lent.sessions, f.identifier, f.length, f.data, lent.payload);
+    if (!is_one_of(a.told.number, list, sizeof list / sizeof list[0]) || a.told.judgement || a.told.position || a.told.detail > YENDROLF_MOST_BYTES)
+        differ("no answer to a packet");
+    if (a.told.number != 0 && (a.told.detail || a.pgn))
+        differ("a refusal with a size or a PGN");
+    changed_at_most(a.told.number == 0 || a.told.number == 29, a.told.number == 0 ? 7 : 0);
+    if (memcmp(lent.payload + a.told.detail, lent_before.payload + a.told.detail, sizeof lent.payload - a.told.detail) != 0)
+        differ("the payload past its size");
+}
+
+/* Of words that no calls make the documents fix this: nothing traps, an answer is of its list, a size is at most 1,785, a refusal leaves everything but for 29's session, the payload is written up to the
+   size that is told and no further, and nothing around what is lent is touched. The second implementation has no such words, so the library is called alone. */
+static void strange_heads(void)
+{
+    lay_strange_heads();
+    for (unsigned i = 0; i < 60; i++, strange_calls++) {
+        const struct talker *t = &talkers[below(TALKERS)];
+        unsigned number = one_in(2) ? (unsigned)(lent.sessions.heads[4 * below(YENDROLF_MOST_SESSIONS) + 1] & 255) : below(256);
+        int asks = one_in(4);
+        struct frame f = asks ? request_of(t) : packet_of(t, number);
+        if (one_in(12))
+            f.data[0] = (uint8_t)any();
+        say_frame(asks ? "request, on strange words" : "packet, on strange words", f);
+        memcpy(&lent_before, &lent, sizeof lent);
+        if (asks)
+            strange_request(f);
+        else
+            strange_packet(f);
+        if (one_in(20))
+            lay_strange_heads();
+    }
+    start_talk();
+    fill_bytes(lent.payload, plain_payload, sizeof lent.payload);
+}
+
+/* Twelve pairs of four sources and three destinations, so that many share one of the two; now and then a source is another's destination. */
+static void set_talkers(void)
+{
+    uint8_t source = (uint8_t)(one_in(3) ? 255 : any());
+    uint8_t destination = one_in(2) ? source : (uint8_t)any();
+    for (unsigned i = 0; i < TALKERS; i++) {
+        talkers[i].source = (uint8_t)(source + 64 * (i % 4));
+        talkers[i].destination = (uint8_t)(destination + 85 * (i / 4));
+        talkers[i].size = talkers[i].sent = 0;
+        talkers[i].whole = 0;
+    }
+}
+
+/* How many of them talk, how many frames are not as they should be, and how long the payloads are. */
+static void set_manner(void)
+{
+    talking = one_in(3) ? TALKERS : one_in(2) ? 8 + below(2) : 1 + below(TALKERS);
+    noise = one_in(2) ? 3000 : 4 + below(30);
+    lengthy = one_in(2);
+}
+
+/* A talker's next frame: a packet, or a request where its payload went out, was refused or was spoilt. */
+static void talk_on(struct talker *t)
+{
+    if (t->sent >= packets_of(t->size) || (!t->whole && !one_in(4)))
+        begin(t);
+    else
+        send_packet(t, t->sent + 1);
+}
+
+/* Every control byte but that of a request to send: 24, and nothing changes. */
+static void other_controls(const struct talker *t)
+{
+    struct frame f = request_of(t);
+    for (unsigned control = 0; control < 256; control++) {
+        f.data[0] = (uint8_t)control;
+        if (control != 16 && ask_to_send(f).number != 24)
+            differ("another control byte is taken");
+    }
+}
+
+static void talk(uint64_t until)
+{
+    if (!one_in(4)) {   /* else the pairs of before go on */
+        set_talkers();
+        if (!one_in(8))   /* else the sessions of before are other pairs' */
+            start_talk();
+    }
+    set_manner();
+    unsigned length = 200 + below(lengthy ? 8000 : 1500);
+    for (unsigned i = 0; i < length && calls < until; i++) {
+        struct talker *t = &talkers[below(talking)];
+        if (!one_in(noise))
+            talk_on(t);
+        else if (one_in(2))
+            slip(t);
+        else if (one_in(8))
+            begin(t);
+        else
+            stray(t);
+        if (i % 512 == 300)
+            check_sessions();
+        if (one_in(4000))
+            other_controls(t);
+        if (one_in(4000))
+            start_talk();
+    }
+    check_sessions();
+    if (one_in(3))
+        strange_heads();
+}
+
+/* A pair's packets in order, and frames of the talkers in between. The answer to the last one. */
+static yendrolf_arrived bring_all(const struct talker *t)
+{
+    yendrolf_arrived a = { { 0, 0, 0, 0 }, 0 };
+    for (unsigned number = 1; number <= packets_of(t->size); number++) {
+        struct talker *other = &talkers[below(TALKERS)];
+        if (one_in(3) && (other->source != t->source || other->destination != t->destination))
+            talk_on(other);
+        a = bring(packet_of(t, number));
+    }
+    return a;
+}
+
+/* A configured message above eight bytes is packed, comes as packets, and is read by its key: the pair's source and destination, and the PGN's k. */
+static void carry(struct intended m)
+{
+    static struct talker t;
+    uint32_t numbers[PLACES];
+    draw_numbers(&m, numbers);
+    yendrolf_told packed = yendrolf_pack(&box, m.source, m.destination, m.k, numbers, m.n, t.payload, sizeof t.payload);
+    if (packed.number != 0 || packed.detail <= 8)
+        return;
+    t.source = m.source;
+    t.destination = m.destination;
+    t.size = packed.detail;
+    t.pgn = 45056 + 256u * m.k;
+    struct frame f = request_of(&t);
+    unsigned number = ask_to_send(f).number;
+    meant_by_nobody(f, number);
+    if (number != 0) {   /* eight others have one */
+        start_talk();
+        return;
+    }
+    yendrolf_arrived a = bring_all(&t);
+    if (a.told.number != 0 || a.told.detail != packed.detail || memcmp(lent.payload, t.payload, packed.detail) != 0)
+        differ("a configured message does not come out");
+    m.k = (uint8_t)((a.pgn - 45056) / 256);
+    read_back(m, lent.payload, a.told.detail, numbers);
+    carried++;
+}
+
 /* ---- scenes */
 
 /* Maps that no wire can carry, of up to 64 positions with starts up to 14,279, laid into the table's words as crates/keyrow/specs/Row.antt has
@@ -1413,6 +1916,8 @@ static void one_call(void)
         load_here();
     else if (what < 959)
         swap();
+    else if (what < 965)
+        carry(any_key());
     else
         command(DECIDE);
 }
@@ -1446,6 +1951,8 @@ static void play_scene(uint64_t until)
         save();
     if (one_in(6))
         damage();
+    if (one_in(4))
+        talk(until);
     unsigned length = laid ? 100 + below(200) : 200 + below(2000);
     for (unsigned i = 0; i < length && calls < until; i++) {
         one_call();
@@ -1501,6 +2008,8 @@ static void print_counts(void)
         printf("  %u %10" PRIu64 " %10" PRIu64 " %10" PRIu64 " %10" PRIu64 "\n", i, scaled_told[i][0], scaled_told[i][1], scaled_told[i][2], scaled_told[i][3]);
     printf("values below 0: %" PRIu64 "\n\n", below_zero);
     printf("longest payload %" PRIu64 " bytes, most numbers %" PRIu64 "\n", longest, most_numbers);
+    printf("long messages that came out %" PRIu64 ", compared with what was cut up %" PRIu64 ", of 255 packets %" PRIu64 ", the longest %" PRIu64 " bytes; sessions replaced %" PRIu64
+        "; configured messages read by their key %" PRIu64 "; calls on strange head words %" PRIu64 "\n", finished, cut_up, of_255, longest_message, replaced, carried, strange_calls);
     printf("the whole box compared %" PRIu64 " times\n", checks);
 }
 
@@ -1512,6 +2021,10 @@ int main(int argc, char **argv)
     memset(&box, 0xa5, sizeof box);   /* a box starts from any bytes */
     yendrolf_start(&box);
     plain_start(&plain);
+    memset(&lent, 0xa5, sizeof lent);   /* so do sessions */
+    set_talkers();
+    start_talk();
+    fill_bytes(lent.payload, plain_payload, sizeof lent.payload);
     while (calls < until)
         play_scene(until);
     print_counts();

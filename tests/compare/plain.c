@@ -53,6 +53,16 @@ static uint32_t pgn_of(struct fields f)
     return ((f.reserved * 2 + f.page) * 256 + f.pf) * 256 + (f.pf < 240 ? 0 : f.ps);
 }
 
+/* "A later call on a frame tests 1, 2 (by the PGN it serves) and 3 first": the first of them that applies, or 0. */
+static unsigned frame_refused(uint32_t identifier, unsigned length, uint32_t pgn)
+{
+    if (identifier > 536870911)
+        return 1;
+    if (pgn_of(fields_of(identifier)) != pgn)
+        return 2;
+    return length != 8 ? 3 : 0;
+}
+
 /* ---- the dictionary: tests/spns.txt, made from 002 by tests/spns.py */
 
 static const struct {
@@ -224,13 +234,10 @@ struct plain_answer plain_learn_message(struct plain_box *box, struct plain_mess
 
 struct plain_answer plain_learn(struct plain_box *box, uint32_t identifier, unsigned length, const uint8_t data[8])
 {
-    if (identifier > 536870911)
-        return answer(1, 0);
+    unsigned refused = frame_refused(identifier, length, 45056);
+    if (refused)
+        return answer(refused, 0);
     struct fields f = fields_of(identifier);
-    if (pgn_of(f) != 45056)
-        return answer(2, 0);
-    if (length != 8)
-        return answer(3, 0);
     if (f.source == 254 || f.source == 255)
         return answer(4, 0);
     /* docs/WIRE.md, "Bit places": bytes are counted from 1 there */
@@ -625,13 +632,10 @@ static void record_of(struct plain_message m, uint8_t record[13])
 struct plain_answer plain_locate(const struct plain_box *box, unsigned own, uint32_t identifier, unsigned length, const uint8_t data[8], uint8_t *log, size_t size,
     size_t start)
 {
-    if (identifier > 536870911)
-        return answer(1, 0);
+    unsigned refused = frame_refused(identifier, length, 44800);
+    if (refused)
+        return answer(refused, 0);
     struct fields f = fields_of(identifier);
-    if (pgn_of(f) != 44800)
-        return answer(2, 0);
-    if (length != 8)
-        return answer(3, 0);
     if (data[7] != 0)
         return answer(24, 0);
     uint32_t spn = data[0] + 256 * data[1] + 65536 * bits(data[2], 5, 3);
@@ -808,6 +812,86 @@ struct plain_body plain_image_body(const uint8_t *image, size_t size, unsigned s
         }
     }
     return got;
+}
+
+/* ---- Req 14: "Long messages" */
+
+void plain_start_sessions(struct plain_sessions *all)
+{
+    all->count = 0;
+}
+
+/* "One session per source and destination": the pair's, or NULL. The two PGNs have a PF below 240, so that "the destination is PS". */
+static struct plain_session *session_of(struct plain_sessions *all, struct fields f)
+{
+    for (unsigned i = 0; i < all->count; i++)
+        if (all->sessions[i].source == f.source && all->sessions[i].destination == f.ps)
+            return &all->sessions[i];
+    return NULL;
+}
+
+/* The session ends: the last one of the list takes its place, since the order says nothing. */
+static void end_session(struct plain_sessions *all, struct plain_session *one)
+{
+    *one = all->sessions[--all->count];
+}
+
+/* "request to send is control byte 16"; size bytes 2 and 3, packets byte 4, PGN bytes 6 to 8, "least significant byte first" */
+struct plain_answer plain_request(struct plain_sessions *all, uint32_t identifier, unsigned length, const uint8_t data[8])
+{
+    unsigned refused = frame_refused(identifier, length, 60416);
+    if (refused)
+        return answer(refused, 0);
+    if (data[0] != 16)
+        return answer(24, 0);
+    /* "31 size outside 9 to 1,785 or not matching its packet count": full packets, and one more for what is left */
+    unsigned size = data[1] + 256u * data[2], packets = size / 7;
+    if (size % 7 > 0)
+        packets++;
+    if (size < 9 || size > 1785 || data[3] != packets)
+        return answer(31, 0);
+    struct fields f = fields_of(identifier);
+    struct plain_session *one = session_of(all, f);   /* "a new request to send replaces that pair's own session" */
+    if (!one) {
+        if (all->count == 8)
+            return answer(30, 0);
+        one = &all->sessions[all->count++];
+    }
+    memset(one, 0, sizeof *one);
+    one->source = f.source;
+    one->destination = f.ps;
+    one->size = size;
+    one->pgn = data[5] + 256u * data[6] + 65536u * data[7];
+    return answer(0, 0);
+}
+
+/* "packets carry a sequence number from 1 and 7 bytes" */
+struct plain_arrived plain_packet(struct plain_sessions *all, uint32_t identifier, unsigned length, const uint8_t data[8], uint8_t *payload)
+{
+    struct plain_arrived arrived = { answer(frame_refused(identifier, length, 60160), 0), 0 };
+    if (arrived.answer.number != 0)
+        return arrived;
+    struct plain_session *one = session_of(all, fields_of(identifier));
+    if (!one) {
+        arrived.answer = answer(28, 0);
+        return arrived;
+    }
+    if (data[0] != one->packets + 1) {   /* "A packet out of sequence drops its session only" */
+        end_session(all, one);
+        arrived.answer = answer(29, 0);
+        return arrived;
+    }
+    for (unsigned i = 0; i < 7; i++)
+        one->bytes[7 * one->packets + i] = data[1 + i];
+    one->packets++;
+    if (7 * one->packets >= one->size) {   /* "the last one's answer 0 carries its size, and the session ends" */
+        for (unsigned i = 0; i < one->size; i++)
+            payload[i] = one->bytes[i];
+        arrived.answer = answer(0, one->size);
+        arrived.pgn = one->pgn;
+        end_session(all, one);
+    }
+    return arrived;
 }
 
 /* ---- "Port pairs" */

@@ -61,6 +61,26 @@ struct plain_row {
     unsigned length;
 };
 
+/* Req 14, a session: the pair that it is of, what its request to send said, and the bytes that came so far. */
+struct plain_session {
+    unsigned source, destination;
+    unsigned size, pgn;
+    unsigned packets;                 /* that came */
+    uint8_t bytes[255 * 7];
+};
+
+/* "One session per source and destination, eight sessions": those that there are, in no order. */
+struct plain_sessions {
+    struct plain_session sessions[8];
+    unsigned count;
+};
+
+/* Req 14, what a packet is answered; beside it the PGN of the payload that it finished, 0 where it finished none. */
+struct plain_arrived {
+    struct plain_answer answer;
+    unsigned pgn;
+};
+
 /* What one message says and is kept (01, "What one message says"). The start counts from 0, the position from 1. */
 struct plain_message {
     unsigned source, destination, k;
@@ -117,6 +137,12 @@ struct plain_answer plain_save(const struct plain_box *box, uint8_t *image, size
 struct plain_answer plain_load(struct plain_box *box, const uint8_t *image, size_t size);
 struct plain_body plain_image_body(const uint8_t *image, size_t size, unsigned source, unsigned destination, unsigned k);
 struct plain_row plain_image_row(const uint8_t *image, size_t size, size_t row);
+
+/* Req 14: no session yet; a frame that may be a request to send (1, 2, 3, 24, 31, 30, or 0); one that may be a packet (1, 2, 3, 28, 29, or 0). The last packet's answer carries the size, and its
+   payload is laid over the start of `payload`. */
+void plain_start_sessions(struct plain_sessions *all);
+struct plain_answer plain_request(struct plain_sessions *all, uint32_t identifier, unsigned length, const uint8_t data[8]);
+struct plain_arrived plain_packet(struct plain_sessions *all, uint32_t identifier, unsigned length, const uint8_t data[8], uint8_t *payload);
 
 /* n of a key's messages; 0 where the key is in conflict or not held. */
 unsigned plain_count(const struct plain_box *box, unsigned source, unsigned destination, unsigned k);

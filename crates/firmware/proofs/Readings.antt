@@ -1,18 +1,23 @@
 -- What C gets and keeps is read one to one: same reading, same value, so that a promise about the reading leaves no choice of what C gets.
 -- Assumes nothing.
+use Prim.Native.Nat.{ℕ}
 use mathlib.Core.Path.{_≡_, refl, ap}
 use mathlib.Core.Option.{Option, none, some}
+use mathlib.Core.List.{List}
 use native.Mathlib.Omega.{arith}
 use Rattle.answers.specs.declared.Answer.{Answer}
 use Rattle.answers.proofs.Cases.{same-answer}
 use Rattle.message.specs.declared.Key.{Key}
 use Rattle.ask.specs.Ask.{Finding, Standing}
+use Rattle.transport.specs.Rows.{Memory}
+use Rattle.transport.specs.Calls.{Received}
 use Rattle.firmware.specs.declared.Told.{Told}
+use Rattle.firmware.specs.declared.Brought.{Brought}
 use Rattle.firmware.specs.declared.Held.{Held}
 use Rattle.firmware.specs.declared.Located.{Located}
 use Rattle.firmware.specs.declared.Log.{Log}
 use Rattle.firmware.specs.declared.Placed.{Placed}
-use Rattle.firmware.specs.Told.{saidTo, toldOf, findingTo, standingTo, heldOf, tallyIn}
+use Rattle.firmware.specs.Told.{saidTo, toldOf, findingTo, standingTo, heldOf, tallyIn, broughtTo}
 
 -- one answer in 01's numbers, one struct
 pub same-told : (a b : Told) → saidTo a ≡ saidTo b → a ≡ b
@@ -45,3 +50,9 @@ same-held (some j) (some k) e = λ i. some (record { source = e i .source; desti
 pub same-log : (a b : Log) → tallyIn a ≡ tallyIn b → a ≡ b
 same-log a b e =
     λ i. record { records = e i .counts .records; refused = e i .counts .refused; other = e i .counts .other; left = e i .left; carry = e i .carry }
+
+-- one answer to a packet, one struct
+pub same-brought : (a b : Brought) → (m : Memory) → (out : List ℕ) → broughtTo a m out ≡ broughtTo b m out → a ≡ b
+same-brought a b m out e =
+    let t = same-told (a .told) (b .told) (ap (λ (r : Received). r .answer) e) in
+    λ i. record { told = t i; pgn = e i .pgn }

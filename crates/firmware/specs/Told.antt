@@ -2,12 +2,14 @@
 -- Assumes nothing.
 use Prim.Native.Nat.{ℕ}
 use mathlib.Core.Option.{Option, none, some}
+use mathlib.Core.List.{List}
 use Rattle.answers.specs.Answers.{Said, saidOf}
 use Rattle.answers.specs.declared.Answer.{Answer}
 use Rattle.message.specs.declared.Key.{Key}
 use Rattle.firmware.specs.declared.Told.{Told}
 use Rattle.ask.specs.Ask.{Finding, Standing}
 use Rattle.feeding.specs.declared.Tally.{Tally}
+use Rattle.firmware.specs.declared.Brought.{Brought}
 use Rattle.firmware.specs.declared.Held.{Held}
 use Rattle.firmware.specs.declared.Located.{Located}
 use Rattle.firmware.specs.declared.Log.{Log}
@@ -18,6 +20,9 @@ use Rattle.firmware.specs.declared.Row.{Row}
 use Rattle.image.specs.Part.{Entry}
 use Rattle.meaning.specs.declared.Meaning.{Meaning}
 use Rattle.meaning.specs.declared.Scaled.{Scaled}
+use Rattle.transport.specs.declared.Arrived.{Arrived}
+use Rattle.transport.specs.Rows.{Memory}
+use Rattle.transport.specs.Calls.{Received, received}
 
 -- the version of the exported calls: one more when a caller must be built again or changed
 abbrev pub version : ℕ
@@ -68,3 +73,11 @@ tallyIn l = record {
   left = l .left;
   carry = l .carry;
 }
+
+-- what a packet is answered, as C gets it
+abbrev pub broughtOf : Arrived → Brought
+broughtOf a = record { told = toldOf (a .answer); pgn = a .pgn }
+
+-- the same with what the lent places hold afterwards
+abbrev pub broughtTo : Brought → Memory → List ℕ → Received
+broughtTo b m out = received (saidTo (b .told)) (b .pgn) m out

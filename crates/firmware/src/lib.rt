@@ -22,7 +22,9 @@ ghost use Rattle.feeding.specs.Feed.{started, fed, feeding};
 ghost use Rattle.listing.specs.Page.{finished};
 ghost use Rattle.pairs.specs.declared.Command.the-variants.{Add, Delete, Renew};
 ghost use Rattle.ports.specs.Filters.{commanded, decided, freshWords};
-ghost use Rattle.firmware.specs.Told.{meantOf, measuredOf, rowTo, version, saidTo, toldOf, heldOf, findingTo, standingTo, tallyIn};
+ghost use Rattle.transport.specs.Rows.{memory, freshHeads};
+ghost use Rattle.transport.specs.Calls.{requested, arrived};
+ghost use Rattle.firmware.specs.Told.{meantOf, measuredOf, rowTo, version, saidTo, toldOf, heldOf, findingTo, standingTo, tallyIn, broughtOf, broughtTo};
 use answers::Answer;
 use ask::Found;
 use ask::Parameter;
@@ -30,6 +32,7 @@ use contents::Listed;
 use feeding::Counts;
 use feeding::Tally;
 use lookup::Next;
+use transport::Arrived;
 
 // An answer in 01's numbers: judgement and position are 0 but for 12 and for 0 of judging, where they are the detail.
 #[repr(C)]
@@ -141,6 +144,25 @@ fn row_in_c(row: Listed) -> Row
         source: key.source as u32,
         destination: key.destination as u32,
         k: key.k as u32,
+    }
+}
+
+// What a packet is answered, and the PGN of the payload that it finished, 0 where it finished none.
+#[repr(C)]
+pub struct Brought {
+    pub told: Told,
+    pub pgn: u32,
+}
+
+// What a packet is answered, as C gets it.
+fn brought_in_c(came: Arrived) -> Brought
+    ensures { λ r. ⌜ r ≡ broughtOf came ⌝ }
+{
+    let answer = came.answer;
+    let told = in_c(answer);
+    Brought {
+        told,
+        pgn: came.pgn,
     }
 }
 
@@ -546,4 +568,43 @@ pub extern "C" fn yendrolf_filters_decide(
     ensures { λ r. ⌜ saidTo r ≡ decided (now (w .entry)) from to id ⌝ }
 {
     in_c(ports::decide(w, from, to, id))
+}
+
+// ---- long messages
+
+// Makes head words of which nobody holds a session; the sessions' bytes may hold anything.
+#[no_mangle]
+pub extern "C" fn yendrolf_sessions_fresh(heads: &mut [u64; transport::WORDS])
+    ensures { λ r. ⌜ now (heads .exit) ≡ freshHeads ⌝ }
+{
+    transport::fresh(heads)
+}
+
+// Takes a frame that may be a request to send.
+#[no_mangle]
+pub extern "C" fn yendrolf_sessions_request(
+    heads: &mut [u64; transport::WORDS],
+    id: u32,
+    len: u8,
+    d: &[u8; 8],
+) -> Told
+    ensures { λ r. ⌜ outcome (saidTo r) (now (heads .exit)) ≡ requested (now (heads .entry)) id len (now (d .entry)) ⌝ }
+{
+    in_c(transport::request(heads, id, len, d))
+}
+
+// Takes a frame that may be a packet; the last packet of a session lays the payload over the start of `out`.
+#[no_mangle]
+pub extern "C" fn yendrolf_sessions_packet(
+    heads: &mut [u64; transport::WORDS],
+    bytes: &mut [u8; transport::BYTES],
+    out: &mut [u8; transport::MOST],
+    id: u32,
+    len: u8,
+    d: &[u8; 8],
+) -> Brought
+    ensures { λ r. ⌜ broughtTo r (memory (now (heads .exit)) (now (bytes .exit))) (now (out .exit))
+        ≡ arrived (memory (now (heads .entry)) (now (bytes .entry))) (now (out .entry)) id len (now (d .entry)) ⌝ }
+{
+    brought_in_c(transport::packet(heads, bytes, out, id, len, d))
 }

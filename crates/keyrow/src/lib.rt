@@ -130,17 +130,6 @@ fn store(row: &mut [u64], i: usize, v: u64)
     }
 }
 
-// Every word 0.
-pub fn clear(row: &mut [u64])
-    ensures { λ r. ⌜ now (row .exit) ≡ replicate (length (now (row .entry))) 0 ⌝ }
-{
-    let mut i = 0;
-    while i < row.len() {
-        row[i] = 0;
-        i += 1;
-    }
-}
-
 // ---- one message more
 
 // Whether the message with these numbers contradicts nothing of the row.
@@ -170,7 +159,7 @@ pub fn learn_row(row: &mut [u64], form: u64, p: u8, cell: u64) -> u8
 pub fn new_row(row: &mut [u64], key: u64, form: u64, p: u8, cell: u64)
     ensures { λ _. ⌜ now (row .exit) ≡ firstNumbers (replicate (length (now (row .entry))) 0) key form p cell ⌝ }
 {
-    clear(row);
+    words::clear(row);
     store(row, STATE, HELD);
     store(row, KEY, key);
     store(row, FORM, form);

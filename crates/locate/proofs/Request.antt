@@ -11,9 +11,9 @@ use Rattle.answers.specs.Tests.{Test, _when_, firstOf, tested}
 use Rattle.frame.specs.declared.Fields.{Fields}
 use Rattle.frame.specs.Frame.{greatestIdentifier, fieldsOf, pgnOf, destinationOf}
 use Rattle.message.specs.declared.Message.{Message}
-use Rattle.message.specs.Message.{byte}
+use Rattle.message.specs.Message.{byte, servedTests}
 use Rattle.locate.specs.Locate.{spnAsked, isOurs, located, answersTo, roomTests, layDone, locatedBy}
-use Rattle.locate.specs.Parts.{frameFaults, laidOut}
+use Rattle.locate.specs.Parts.{laidOut}
 
 -- ---- the three tests of the identifier and the length, and those that come after them
 
@@ -42,9 +42,9 @@ module _ (log : List ℕ) (later : List (Test Said)) (rest : Outcome) where
 
 module _ (widthOf : ℕ → ℕ) (t : List ℕ) (own id len : ℕ) (d log : List ℕ) (start : ℕ) (f : Fields) (split : f ≡ fieldsOf id) where
   -- by what the identifier and the length gave
-  module _ (bad : ℕ) (its : bad ≡ firstOf (frameFaults id len f) 0) where
-    faults-are : bad ≡ firstOf (frameFaults id len (fieldsOf id)) 0
-    faults-are = its ∙ ap (λ (x : Fields). firstOf (frameFaults id len x) 0) split
+  module _ (bad : ℕ) (its : bad ≡ firstOf (servedTests 44800 id len f) 0) where
+    faults-are : bad ≡ firstOf (servedTests 44800 id len (fieldsOf id)) 0
+    faults-are = its ∙ ap (λ (x : Fields). firstOf (servedTests 44800 id len x) 0) split
 
     abbrev later : List (Test Said)
     later = plain 24 when not (eqb (byte d 8) 0) ∷ roomTests (answersTo widthOf t own id d) log start

@@ -1,15 +1,13 @@
 -- What the private functions of this room promise. Assumes nothing.
 use Prim.Native.Nat.{ℕ, zero, suc, _+_, _-_}
-use mathlib.Core.Bool.{Bool, cond, not}
+use mathlib.Core.Bool.{Bool, cond}
 use mathlib.Core.Option.{Option, none, some}
 use mathlib.Core.List.{List, [], _∷_, map}
-use lib.Dec.{eqb, ltb}
+use lib.Dec.{eqb}
 use lib.ListN.{length, getD}
 use Rattle.words.specs.First.{any}
 use Rattle.answers.specs.Answers.{Outcome}
-use Rattle.answers.specs.Tests.{Test, _when_, tested}
-use Rattle.frame.specs.declared.Fields.{Fields}
-use Rattle.frame.specs.Frame.{greatestIdentifier, pgnOf}
+use Rattle.answers.specs.Tests.{tested}
 use Rattle.message.specs.declared.Key.{Key}
 use Rattle.message.specs.declared.Message.{Message}
 use Rattle.maps.specs.Maps.{Map}
@@ -21,10 +19,6 @@ use Rattle.lookup.specs.Next.{firstKey, nextKey}
 use Rattle.ask.specs.Ask.{positionOf, standsBy}
 use Rattle.written.specs.Written.{recordOf}
 use Rattle.locate.specs.Locate.{tells, roomTests, layDone}
-
--- the refusals that the identifier and the length give
-abbrev pub frameFaults : ℕ → ℕ → Fields → List (Test ℕ)
-frameFaults id len f = 1 when ltb greatestIdentifier id ∷ 2 when not (eqb (pgnOf f) 44800) ∷ 3 when not (eqb len 8) ∷ []
 
 -- ---- looking: each key is judged once, and its position is kept
 

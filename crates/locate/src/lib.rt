@@ -7,7 +7,6 @@ ghost use lib.Dec.{ltb};
 ghost use lib.ListN.{length};
 ghost use mathlib.Core.Bool.{cond};
 ghost use Rattle.answers.specs.Answers.{outcome, inNumbers, plain, done};
-ghost use Rattle.answers.specs.Tests.{firstOf};
 ghost use Rattle.text.specs.Text.{page, put, putAll};
 ghost use Rattle.dictionary.specs.Dictionary.{widthOf};
 ghost use Rattle.keyrow.specs.Row.{formWord};
@@ -15,11 +14,9 @@ ghost use Rattle.keyrow.specs.View.{headOf};
 ghost use Rattle.lookup.specs.View.{mapIn, rowFor};
 ghost use Rattle.written.specs.Written.{recordOf};
 ghost use Rattle.locate.specs.Locate.{spnAsked, isOurs, locatedKeys, located, locatedBy};
-ghost use Rattle.locate.specs.Parts.{frameFaults, mentioned, positionTold, messagesFor, positionsOf, messageAt, pieceAt, piecesOf, laidOut};
+ghost use Rattle.locate.specs.Parts.{mentioned, positionTold, messagesFor, positionsOf, messageAt, pieceAt, piecesOf, laidOut};
 use answers::Answer;
-use frame::Fields;
 use frame::Three;
-use frame::pick8;
 use keyrow::FORM;
 use lookup::Next;
 use lookup::ROWS;
@@ -49,15 +46,6 @@ struct Places {
 }
 
 // ---- the request
-
-// The first of 1, 2 and 3 that applies, or 0. No data byte is asked for.
-fn frame_fault(id: u32, len: u8, f: Fields) -> u8
-    ensures { λ r. ⌜ r ≡ firstOf (frameFaults id len f) 0 ⌝ }
-{
-    let three = pick8(len != 8, 3, 0);
-    let two = pick8(frame::pgn(f) != PARAMETER_LOCATE, 2, three);
-    pick8(frame::GREATEST < id, 1, two)
-}
 
 // Whether a request to this destination is one to us.
 fn is_ours(own: u8, destination: u8) -> bool
@@ -279,7 +267,7 @@ pub fn locate(
         ≡ locatedBy widthOf (now (t .entry)) own id len (now (d .entry)) (now (log .entry)) start ⌝ }
 {
     let f = frame::split(id);
-    let bad = frame_fault(id, len, f);
+    let bad = message::served_fault(PARAMETER_LOCATE, id, len, f);
     if bad != 0 {
         return answers::plainly(bad);
     }

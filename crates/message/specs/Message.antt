@@ -3,7 +3,7 @@
 -- Assumes nothing.
 use Prim.Native.Nat.{ℕ, _+_, _-_, _/_, _%_, _^_}
 use mathlib.Core.Bool.{Bool, cond, not, _||_, _&&_}
-use mathlib.Core.List.{List, [], _∷_}
+use mathlib.Core.List.{List, [], _∷_, _++_}
 use mathlib.Core.Option.{Option, none, some}
 use lib.Dec.{eqb, leb, ltb}
 use lib.ListN.{getD}
@@ -60,14 +60,14 @@ miscounted n position first =
 abbrev pub misplaced : ℕ → Bool
 misplaced wire = eqb wire 0 || ltb 14280 wire || ltb 250 wire
 
--- what the frame says: identifier above 2^29 - 1; another PGN; length; source
+-- what any frame says: identifier above 2^29 - 1; another PGN than the one that a call serves; length. "A later call on a frame tests 1, 2 (by the PGN it serves) and 3
+-- first unless its text says otherwise"
+abbrev pub servedTests : ℕ → ℕ → ℕ → Fields → List (Test ℕ)
+servedTests pgn id len f = 1 when ltb greatestIdentifier id ∷ 2 when not (eqb (pgnOf f) pgn) ∷ 3 when not (eqb len 8) ∷ []
+
+-- what the frame of a message says: these, and its source
 abbrev pub frameTests : ℕ → ℕ → Fields → List (Test ℕ)
-frameTests id len f =
-    1 when ltb greatestIdentifier id
-    ∷ 2 when not (eqb (pgnOf f) 45056)
-    ∷ 3 when not (eqb len 8)
-    ∷ 4 when leb 254 (f .source)
-    ∷ []
+frameTests id len f = servedTests 45056 id len f ++ (4 when leb 254 (f .source) ∷ [])
 
 -- what the eight bytes say
 abbrev pub dataTests : Wire → List (Test ℕ)

@@ -3,7 +3,7 @@ ghost use mathlib.Core.Path.{_≡_};
 ghost use Prim.Native.Nat.{_-_};
 ghost use lib.Dec.{eqb};
 ghost use Rattle.frame.specs.Frame.{pgnOf};
-ghost use Rattle.message.specs.Message.{wireOf, foreign, unflagged, miscounted, misplaced, frameTests, dataTests, messageOf, heardOf, heardFrom, heard};
+ghost use Rattle.message.specs.Message.{wireOf, foreign, unflagged, miscounted, misplaced, servedTests, frameTests, dataTests, messageOf, heardOf, heardFrom, heard};
 ghost use Rattle.answers.specs.Tests.{firstOf};
 use frame::Fields;
 use frame::Three;
@@ -117,6 +117,15 @@ pub fn is_configuration(f: Fields) -> bool
     ensures { λ r. ⌜ r ≡ eqb (pgnOf f) 45056 ⌝ }
 {
     (f.reserved == 0) & (f.page == 0) & (f.pf == 176)
+}
+
+// For later calls on a frame: the first of 1, 2 (by the PGN that a call serves) and 3 that applies, or 0. No data byte is asked for.
+pub fn served_fault(pgn: u32, id: u32, len: u8, f: Fields) -> u8
+    ensures { λ r. ⌜ r ≡ firstOf (servedTests pgn id len f) 0 ⌝ }
+{
+    let three = pick8(len != 8, 3, 0);
+    let two = pick8(frame::pgn(f) != pgn, 2, three);
+    pick8(frame::GREATEST < id, 1, two)
 }
 
 // The first of 1 to 4 that applies, or 0. No data byte is asked for.

@@ -2,9 +2,10 @@
 use mathlib.Core.Path.{_≡_, refl, sym, ap, _∙_}
 use mathlib.Core.List.{List, [], _∷_, _++_, append-assoc, append-nil}
 use mathlib.Core.Bool.{true, false}
-use Prim.Native.Nat.{ℕ, zero, suc, _+_, _-_, _≤_, _<_}
+use Prim.Native.Nat.{ℕ, zero, suc, _+_, _-_, _≤_, _<_, min}
 use native.Mathlib.Nat.{le-of-suc-le-suc, not-suc-le-zero}
 use native.Mathlib.Numerals.{add-one}
+use native.Mathlib.Decide.{decLt}
 use native.Mathlib.Omega.{arith}
 use lib.ListN.{length, getD, take, drop, set, length-append, length-take, length-drop, drop-of-length-le}
 use lib.Seq.{take-append-seam, drop-append-seam, take-append-add, take-append-le, take-all, drop-drop}
@@ -22,15 +23,18 @@ pub copy-more : (d s : List ℕ) (i : ℕ) → i < length s → i < length d →
 copy-more d s i h k = rw add-one (copy-suc d s i h k)
 
 -- the copy is whole where either list ends
-pub copied-short : (d s : List ℕ) (i : ℕ) → i ≤ length s → i ≤ length d → length d ≤ i → take i s ++ drop i d ≡ covered d s
-copied-short d s i h k e =
-    let q : i ≡ length d = omega arith in
-    rw (q, drop-of-length-le d {i = length d} (omega arith), drop-of-length-le d {i = length s} (omega arith))
+copied-short : (d s : List ℕ) → length d ≤ length s → take (length d) s ++ drop (length d) d ≡ covered d s
+copied-short d s h = rw (drop-of-length-le d {i = length d} (omega arith), drop-of-length-le d {i = length s} h)
 
-pub copied-whole : (d s : List ℕ) (i : ℕ) → i ≤ length s → i ≤ length d → length s ≤ i → take i s ++ drop i d ≡ covered d s
-copied-whole d s i h k e =
-    let q : i ≡ length s = omega arith in
-    rw (q, take-all (length s) s (omega arith), take-all (length d) s (omega arith))
+copied-whole : (d s : List ℕ) → length s ≤ length d → take (length s) s ++ drop (length s) d ≡ covered d s
+copied-whole d s h = rw (take-all (length s) s (omega arith), take-all (length d) s h)
+
+pub copied : (d s : List ℕ) (i : ℕ) → i ≡ min (length d) (length s) → take i s ++ drop i d ≡ covered d s
+copied d s i e =
+    elim (decLt (length d) (length s)) [
+      | yes l ↦ let q : i ≡ length d = omega arith in rw q (copied-short d s (omega arith))
+      | no l ↦ let q : i ≡ length s = omega arith in rw q (copied-whole d s (omega arith))
+    ]
 
 -- lists that end together
 pub covered-same : (d s : List ℕ) → length d ≡ length s → covered d s ≡ s

@@ -1,17 +1,22 @@
 // Bytes laid into a lent buffer, from a given byte on and nowhere else.
 ghost use mathlib.Core.Path.{_≡_};
-ghost use Prim.Native.Nat.{_+_};
+ghost use Prim.Native.Nat.{_+_, min};
 ghost use Rattle.splice.specs.Splice.{covered, fits, laid};
 
-// Copies src over the start of dst, as far as both reach.
+// How far two lengths both reach.
+fn shorter(a: usize, b: usize) -> usize
+    ensures { λ r. ⌜ r ≡ min a b ⌝ }
+{
+    if a < b { a } else { b }
+}
+
+// Copies src over the start of dst, as far as both reach. The loop has one way out, so that a compiler copies many bytes at once.
 pub fn copy_in(dst: &mut [u8], src: &[u8])
     ensures { λ _. ⌜ now (dst .exit) ≡ covered (now (dst .entry)) (now (src .entry)) ⌝ }
 {
+    let n = shorter(dst.len(), src.len());
     let mut i = 0;
-    while i < src.len() {
-        if dst.len() <= i {
-            return;
-        }
+    while i < n {
         dst[i] = src[i];
         i += 1;
     }

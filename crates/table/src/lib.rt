@@ -90,7 +90,7 @@ pub fn learn(t: &mut [u64; WORDS], id: u32, len: u8, d: &[u8; 8]) -> Answer
 pub fn empty(t: &mut [u64; WORDS])
     ensures { λ r. ⌜ now (t .exit) ≡ emptyTable ⌝ }
 {
-    keyrow::clear(t);
+    words::clear(t);
 }
 
 // Frees every row that holds the key.

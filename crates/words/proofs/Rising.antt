@@ -41,7 +41,7 @@ unfolding insert
 insert-starts x y [] h a = lt-ltb x y h
 insert-starts x y (z ∷ l) h a = test (ltb y z) (λ e. rw e (lt-ltb x y h)) (λ e. rw e (test (eqb y z) (λ f. rw f a) (λ f. rw f a)))
 
-starts-lower : (x y : ℕ) (l : List ℕ) → x < y → startsAbove y l ≡ true → startsAbove x l ≡ true
+pub starts-lower : (x y : ℕ) (l : List ℕ) → x < y → startsAbove y l ≡ true → startsAbove x l ≡ true
 starts-lower x y [] h a = refl
 starts-lower x y (z ∷ l) h a = lt-ltb x z (omega (arith, ltb-true y z a))
 

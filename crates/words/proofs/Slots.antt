@@ -1,13 +1,13 @@
 -- The laws of a table of slots: what a row that is put does to the view of each key. Assumes nothing.
 use mathlib.Core.Path.{_≡_, refl, sym, _∙_}
 use mathlib.Core.Bool.{Bool, true, false, true≢false}
-use mathlib.Core.Option.{some}
+use mathlib.Core.Option.{none, some}
 use Prim.Native.Nat.{ℕ, _<_}
 use native.Mathlib.Omega.{arith}
 use native.Mathlib.Decide.{decLt, ℕ-discrete}
 use borrow.Author.Tests.{lt-ltb, le-ltb}
 use Rattle.words.specs.Slots.{Put, slot, view, Distinct}
-use Rattle.words.proofs.First.{first-at, first-same, first-holds, first-below}
+use Rattle.words.proofs.First.{first-at, first-none, first-same, first-holds, first-below}
 
 -- the slot that is found holds the key, and none below it does
 pub at-slot : {R : Type 0} (is : R → ℕ → Bool) (n : ℕ) (f : ℕ → R) (key : ℕ) → slot is n f key < n → is (f (slot is n f key)) key ≡ true
@@ -39,6 +39,18 @@ module _ {R : Type 0} (is : R → ℕ → Bool) (n : ℕ) (f g : ℕ → R) (i :
     where
       here : slot is n g key ≡ i
       here = first-at (λ k. is (g k) key) n i (p .inside) (λ k h. rw (p .off k (omega arith) (omega arith)) (below k h)) (rw (p .at) now)
+
+  -- where no other row has the key either, it is held no more
+  pub view-gone : ((k : ℕ) → k < n → (k ≡ i → ⊥) → is (f k) key ≡ false) → is r key ≡ false → view is n g key ≡ none
+  unfolding view
+  view-gone others now = rw (nowhere, le-ltb n n (omega arith))
+    where
+      gone : (k : ℕ) → k < n → Dec (k ≡ i) → is (g k) key ≡ false
+      gone k h (yes e) = rw (e, p .at) now
+      gone k h (no ne) = rw (p .off k h ne) (others k h ne)
+
+      nowhere : slot is n g key ≡ n
+      nowhere = first-none (λ k. is (g k) key) n (λ k h. gone k h (ℕ-discrete k i))
 
 module _ {R : Type 0} (is : R → ℕ → Bool) (n : ℕ) (f g : ℕ → R) (i : ℕ) (r : R) (p : Put n f g i r) (only : Distinct is n f) where
   pub put-distinct : ((a k : ℕ) → k < n → (k ≡ i → ⊥) → is r a ≡ true → is (f k) a ≡ true → ⊥) → Distinct is n g

@@ -3,15 +3,15 @@ use Prim.Native.Nat.{_-_}
 use native.Mathlib.Omega.{arith}
 use borrow.Author.Needs.{needs}
 use lib.ListN.{length}
 use Rattle.words.proofs.Lists.{Spread, spread-none, spread-more, spread-all}
-use Rattle.keyrow.proofs.clear.Statement.{statement}
-use Rattle.keyrow.proofs.clear.Tie as tie
+use Rattle.words.proofs.clear.Statement.{statement}
+use Rattle.words.proofs.clear.Tie as tie
 
 abbrev Inv-loop : tie.InvT-loop
-Inv-loop row₀ i₀ row i = Spread 0 row₀ row i
+Inv-loop words₀ i₀ words i = Spread 0 words₀ words i
 
 abbrev μ-loop : tie.MeasureT-loop
-μ-loop row₀ i₀ row i = length row₀ - i
+μ-loop words₀ i₀ words i = length words₀ - i
 
 loop-again : tie.Need-loop-again Inv-loop μ-loop
 loop-again c = spread-more 0 _ _ _ (c .before .loop .inv) (omega arith)

@@ -1,0 +1,4 @@
+pub mod Tests
+pub mod Words
+pub mod Packets
+pub mod Frames
