@@ -34,6 +34,8 @@
 #define FIRST_64 1       /* these in `wide_box` */
 #define FIRST_1 6
 #define FIRST_odd 11
+#define FIRST_2010 1     /* these in `edition_box`: the same maps twice, of SPNs that both editions have, by the one edition and by the other */
+#define FIRST_2004 6
 
 struct frame {
     uint32_t identifier;
@@ -50,8 +52,8 @@ struct key {
     uint8_t source, k;
 };
 
-static yendrolf_box box, wide_box, other_box, spare;
-static struct map maps_8[MAPS], maps_30[MAPS], maps_64[MAPS], maps_1[MAPS], maps_odd[MAPS];
+static yendrolf_box box, wide_box, edition_box, other_box, spare;
+static struct map maps_8[MAPS], maps_30[MAPS], maps_64[MAPS], maps_1[MAPS], maps_odd[MAPS], maps_2010[MAPS], maps_2004[MAPS];
 static struct key keys[KEYS];             /* of `box`, in the order of its rows */
 static struct frame frames[FRAMES];
 static uint32_t other_ids[FRAMES];
@@ -60,8 +62,8 @@ static uint32_t numbers[YENDROLF_MOST_NUMBERS];
 static uint8_t payload[YENDROLF_MOST_BYTES], states[YENDROLF_MOST_NUMBERS];
 static uint32_t asked_spns[FRAMES], asked_numbers[FRAMES];
 static uint8_t requests[FRAMES][8];       /* the data of Parameter Locates */
-static uint8_t saved_image[YENDROLF_IMAGE_BYTES], damaged_image[YENDROLF_IMAGE_BYTES];   /* of `box` */
-static size_t saved_size;
+static uint8_t saved_image[YENDROLF_IMAGE_BYTES], damaged_image[YENDROLF_IMAGE_BYTES], form_1_image[YENDROLF_IMAGE_BYTES];   /* of `box` */
+static size_t saved_size, form_1_size;
 static yendrolf_sessions talk;
 static const uint8_t asking[8] = { 16, 0xf9, 0x06, 255, 255, 0x00, 0xb2, 0x00 };   /* a request to send 1,785 bytes */
 static uint8_t packets[256][8];           /* by their number */
@@ -116,11 +118,14 @@ static const struct test {
     { "learn: a frame of another PGN", 2000000, BUILT(others) },
     { "learn: a message", 400000, BUILT(learn) },
     { "forget", 400000, BUILT(forget) },
+    { "set an edition", 800000, BUILT(set_edition) },
     { "count", 800000, BUILT(count) },
     { "judge 8", 20000, BUILT(judge_8) },
     { "judge 30", 5000, BUILT(judge_30) },
     { "judge 64", 2400, BUILT(judge_64) },
     { "judge 8, two of odd widths", 20000, BUILT(judge_odd) },
+    { "judge 8 of both editions, by 2010", 20000, BUILT(judge_2010) },
+    { "judge 8 of both editions, by 2004", 20000, BUILT(judge_2004) },
     { "pack 8", 16000, BUILT(pack_8) },
     { "pack 30", 4000, BUILT(pack_30) },
     { "pack 64", 2000, BUILT(pack_64) },
@@ -131,6 +136,10 @@ static const struct test {
     { "read 64", 2000, BUILT(read_64) },
     { "read one at the last bits", 40000, BUILT(read_1) },
     { "read 8, two of odd widths", 16000, BUILT(read_odd) },
+    { "pack 8 of both editions, by 2010", 16000, BUILT(pack_2010) },
+    { "pack 8 of both editions, by 2004", 16000, BUILT(pack_2004) },
+    { "read 8 of both editions, by 2010", 16000, BUILT(read_2010) },
+    { "read 8 of both editions, by 2004", 16000, BUILT(read_2004) },
     { "find one of 8", 20000, BUILT(find) },
     { "parameter at a position of 8", 80000, BUILT(parameter) },
     { "locate an SPN in 16 keys", 20000, BUILT(locate) },
@@ -144,6 +153,7 @@ static const struct test {
     { "finish, 16 keys", 800, BUILT(finish) },
     { "save, 10 usable keys of 16", 800, BUILT(save) },
     { "load, 10 keys", 800, BUILT(load) },
+    { "load, 10 keys, as Req 01 saved them", 800, BUILT(load_1) },
     { "load, damaged at the end", 800, BUILT(damaged) },
     { "body of a key in an image of 10", 800, BUILT(body) },
     { "row of an image of 10", 800, BUILT(row) },
@@ -319,6 +329,61 @@ static void lay_map(const struct map *m, unsigned row, uint8_t k)
         words[2 + p] = 1 + m->spns[p - 1] + ((uint64_t)m->starts[p - 1] << 32);
 }
 
+/* A map of 8 different SPNs of the twelve that both editions have, one behind another. */
+static void draw_of_both(struct map *m)
+{
+    static const struct {
+        uint32_t spn;
+        unsigned width;
+    } both[] = {
+#include "spns2004.inc"
+    };
+    unsigned taken = 0, at = 0;
+    m->n = 0;
+    while (m->n < 8) {
+        unsigned row = any() % (sizeof both / sizeof both[0]);
+        if (taken >> row & 1)
+            continue;
+        taken |= 1u << row;
+        at = start_from(at, both[row].width);
+        m->spns[m->n] = both[row].spn;
+        m->starts[m->n++] = at;
+        at += span_of(both[row].width);
+    }
+    m->bytes = at <= 64 ? 8 : (at + 7) / 8;
+}
+
+/* A key of `edition_box` with this map, from frames, and of this edition. */
+static void teach_edition(const struct map *m, uint8_t k, uint32_t edition)
+{
+    for (unsigned p = 1; p <= m->n; p++) {
+        struct frame f = message(38, k, m->n, p, m->spns[p - 1], m->starts[p - 1], m->bytes > 8);
+        yendrolf_learn(&edition_box, f.identifier, 8, f.data);
+    }
+    if (yendrolf_set_edition(&edition_box, 38, 39, k, edition).number != 0)
+        fail("an edition was refused");
+}
+
+/* The image as it was before Req 10: rows without an edition, and offsets that are one byte less for each row. */
+static void make_form_1(void)
+{
+    unsigned count = saved_image[1];
+    form_1_image[0] = 1;
+    form_1_image[1] = (uint8_t)count;
+    for (unsigned i = 0; i < count; i++) {
+        uint8_t *row = form_1_image + 2 + 7 * i;
+        memcpy(row, saved_image + 2 + 8 * i, 7);
+        unsigned offset = row[3] + 256u * row[4] - count;
+        row[3] = (uint8_t)offset;
+        row[4] = (uint8_t)(offset >> 8);
+    }
+    form_1_size = saved_size - count;
+    memcpy(form_1_image + 2 + 7 * count, saved_image + 2 + 8 * count, form_1_size - 2 - 7 * count);
+    yendrolf_empty(&other_box);
+    if (yendrolf_load(&other_box, form_1_image, form_1_size).number != 0)
+        fail("an image of form 1 is not loaded");
+}
+
 /* All maps of one kind are usable. */
 static void see_usable(const yendrolf_box *b, uint8_t first, const struct map *m)
 {
@@ -333,6 +398,7 @@ static void prepare(void)
 {
     yendrolf_start(&box);
     yendrolf_start(&wide_box);
+    yendrolf_start(&edition_box);
     yendrolf_start(&other_box);
     for (uint8_t i = 0; i < MAPS; i++) {
         while (!draw(&maps_8[i], 8, 249, 64))
@@ -351,6 +417,12 @@ static void prepare(void)
         teach_map(&maps_8[i], (uint8_t)(FIRST_8 + i));
     for (uint8_t i = 0; i < MAPS; i++)
         teach_map(&maps_30[i], (uint8_t)(FIRST_30 + i));
+    for (uint8_t i = 0; i < MAPS; i++) {
+        draw_of_both(&maps_2010[i]);
+        maps_2004[i] = maps_2010[i];
+        teach_edition(&maps_2010[i], (uint8_t)(FIRST_2010 + i), YENDROLF_2010);
+        teach_edition(&maps_2004[i], (uint8_t)(FIRST_2004 + i), YENDROLF_2004);
+    }
     for (uint8_t k = 11; held < KEYS; k = k < 15 ? k + 1 : 1) {   /* and keys that are not complete, which fill the table */
         uint8_t source = held < 15 ? 38 : 40;
         keys[held++] = (struct key){ source, k };
@@ -361,12 +433,15 @@ static void prepare(void)
     see_usable(&wide_box, FIRST_64, maps_64);
     see_usable(&wide_box, FIRST_1, maps_1);
     see_usable(&wide_box, FIRST_odd, maps_odd);
+    see_usable(&edition_box, FIRST_2010, maps_2010);
+    see_usable(&edition_box, FIRST_2004, maps_2004);
     spare = box;
     saved_size = yendrolf_image_size(&box);
     if (yendrolf_save(&box, saved_image, sizeof saved_image).number != 0 || saved_image[1] != 2 * MAPS)
         fail("not all usable maps are saved");
     memcpy(damaged_image, saved_image, saved_size);
     damaged_image[saved_size - 1] ^= 255;
+    make_form_1();
     for (unsigned i = made; i < FRAMES; i++)
         frames[i] = frames[any() % made];
     for (unsigned i = 0; i < FRAMES; i++)
@@ -463,7 +538,7 @@ int main(int argc, char **argv)
     for (size_t t = 0; t < sizeof tests / sizeof tests[0]; t++)
         measure(&tests[t], part ? part : 1);
     printf("\n%s. Processor time, medians of %d runs that take turns, in one process. The %llu SPNs were drawn evenly from the dictionary's %zu rows\n"
-        "(mean row %.0f), but for those of the maps with odd widths. State: %zu bytes (table %zu, filters %zu) and %zu of sessions, the same for all.\n",
+        "(mean row %.0f), but for those of the maps with odd widths and of both editions. State: %zu bytes (table %zu, filters %zu) and %zu of sessions, the same for all.\n",
         argc > 1 ? argv[1] : "", RUNS, (unsigned long long)rows_drawn, ENTRIES, (double)rows_sum / (double)rows_drawn, sizeof(yendrolf_box), sizeof box.table,
         sizeof box.filters, sizeof talk);
     return 0;

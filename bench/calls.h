@@ -31,6 +31,20 @@ MEASURED uint64_t TEST(forget)(uint64_t n)
     return sum;
 }
 
+/* One in four is no edition. */
+MEASURED uint64_t TEST(set_edition)(uint64_t n)
+{
+    static const uint32_t editions[4] = { 2004, 2010, 2007, 2004 };
+    uint64_t sum = 0;
+    for (uint64_t i = 0; i < n; i++) {
+        const struct key *key = &keys[i % KEYS];
+        sum += CALL(table_set_edition)(spare.table, key->source, 39, key->k, editions[i % 4]).number + spare.table[i % KEYS * ROW + 2];
+    }
+    for (unsigned i = 0; i < KEYS; i++)
+        spare.table[i * ROW + 2] = box.table[i * ROW + 2];
+    return sum;
+}
+
 MEASURED uint64_t TEST(count)(uint64_t n)
 {
     uint64_t sum = 0;
@@ -77,6 +91,8 @@ OVER_MAPS(30, box.table)
 OVER_MAPS(64, wide_box.table)
 OVER_MAPS(1, wide_box.table)
 OVER_MAPS(odd, wide_box.table)
+OVER_MAPS(2010, edition_box.table)
+OVER_MAPS(2004, edition_box.table)
 #undef OVER_MAPS
 
 /* One in eight is not in the map. */
@@ -210,6 +226,19 @@ MEASURED uint64_t TEST(load)(uint64_t n)
         for (unsigned row = 0; row < KEYS; row++)
             other_box.table[row * ROW] = 0;
         sum += CALL(table_load)(other_box.table, saved_image, saved_size).number + other_box.table[i % YENDROLF_TABLE_WORDS];
+    }
+    return sum;
+}
+
+/* The same from the image that Req 01 would have saved. */
+MEASURED uint64_t TEST(load_1)(uint64_t n)
+{
+    uint64_t sum = 0;
+    CALL(table_empty)(other_box.table);
+    for (uint64_t i = 0; i < n; i++) {
+        for (unsigned row = 0; row < KEYS; row++)
+            other_box.table[row * ROW] = 0;
+        sum += CALL(table_load)(other_box.table, form_1_image, form_1_size).number + other_box.table[i % YENDROLF_TABLE_WORDS];
     }
     return sum;
 }

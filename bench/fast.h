@@ -12,6 +12,8 @@
 void FAST(table_empty)(uint64_t *table);
 yendrolf_told FAST(table_learn)(uint64_t *table, uint32_t identifier, uint8_t length, const uint8_t *data);
 yendrolf_told FAST(table_forget)(uint64_t *table, uint8_t source, uint8_t destination, uint8_t k);
+yendrolf_told FAST(table_set_edition)(uint64_t *table, uint8_t source, uint8_t destination, uint8_t k, uint32_t edition);
+uint32_t FAST(table_edition)(const uint64_t *table, uint8_t source, uint8_t destination, uint8_t k);
 uint32_t FAST(table_count)(const uint64_t *table, uint8_t source, uint8_t destination, uint8_t k);
 yendrolf_told FAST(table_judge)(const uint64_t *table, uint8_t source, uint8_t destination, uint8_t k);
 yendrolf_told FAST(table_pack)(const uint64_t *table, uint8_t source, uint8_t destination, uint8_t k, const uint32_t *numbers, size_t count,

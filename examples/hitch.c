@@ -1,6 +1,6 @@
 /* A header's box in C, from its start to a day's work: it learns document 01's case A from two frames, judges it, packs and reads a payload, tells a pressure from
-   'not available', finds a parameter, answers a tester's Parameter Locate, saves what it learned for the box that takes its place, meets a contradiction and forgets, lists a
-   log, and keeps an engine's frames off one port. examples/run builds it, runs it, and compares what it prints with examples/hitch.txt. */
+   'not available', finds a parameter, answers a tester's Parameter Locate, saves what it learned for the box that takes its place, judges by the edition of 2004, meets a contradiction and
+   forgets, lists a log, and keeps an engine's frames off one port. examples/run builds it, runs it, and compares what it prints with examples/hitch.txt. */
 #include <inttypes.h>
 #include <stdio.h>
 
@@ -115,7 +115,7 @@ int main(void)
     static yendrolf_box swapped;
     uint8_t image[YENDROLF_IMAGE_BYTES];
     size_t size = yendrolf_image_size(&box);
-    say("save into 18 bytes", yendrolf_save(&box, image, 18));
+    say("save into 19 bytes", yendrolf_save(&box, image, 19));
     say("save", yendrolf_save(&box, image, sizeof image));
     printf("%-34s", "the image");
     for (size_t i = 0; i < size; i++)
@@ -136,10 +136,22 @@ int main(void)
     say("ask the image for 38 39 2", yendrolf_image_body(image, size, 38, 39, 2).told);
     yendrolf_row row;
     for (size_t i = 0; (row = yendrolf_image_row(image, size, i)).told.number == YENDROLF_DONE; i++)   /* a walk ends with 22, and one over a damaged image with 21 */
-        printf("row %-30zu %u %u %u, %zu bytes from byte %zu on\n", i, row.source, row.destination, row.k, row.length, row.offset);
+        printf("row %-30zu %u %u %u, %zu bytes from byte %zu on, edition %u\n", i, row.source, row.destination, row.k, row.length, row.offset, row.edition);
     say("behind the last row", row.told);
-    image[12] ^= 0x20;   /* one bit of the image: first-only yes, which no image has */
+    image[13] ^= 0x20;   /* one bit of the image: first-only yes, which no image has */
     say("load it with a bit turned", yendrolf_load(&swapped, image, size));
+
+    /* An older combine follows SAE J1939-74 of 2004, whose dictionary has twelve SPNs, and 1517 is none of them. No message says which edition a sender follows: whoever knows it sets it, key
+       by key. It is saved with the key's map, and a forget brings 2010 back. */
+    printf("%-34s %u\n", "its edition", yendrolf_edition(&swapped, 38, 39, 1));
+    say("set it to 2004", yendrolf_set_edition(&swapped, 38, 39, 1, YENDROLF_2004));
+    say("judge: 1517 is not in 2004's", yendrolf_judge(&swapped, 38, 39, 1));
+    say("pack", yendrolf_pack(&swapped, 38, 39, 1, numbers, 2, payload, sizeof payload));
+    printf("%-34s %zu bytes\n", "its image: a map not usable is out", yendrolf_image_size(&swapped));
+    say("set it to 2007", yendrolf_set_edition(&swapped, 38, 39, 1, 2007));
+    say("set it to 2010", yendrolf_set_edition(&swapped, 38, 39, 1, YENDROLF_2010));
+    say("judge", yendrolf_judge(&swapped, 38, 39, 1));
+    say("set one that is not held", yendrolf_set_edition(&swapped, 38, 39, 2, YENDROLF_2004));
 
     say("learn another start for position 2", yendrolf_learn(&box, 0x18b02726, 8, other));
     say("judge: in conflict", yendrolf_judge(&box, 38, 39, 1));

@@ -1,6 +1,6 @@
-/* The box for C: learning Configuration Identification Messages, judging maps, packing and reading payloads, what a number means, the answer to a Parameter Locate,
- * the listing of a log, an image of what the box learned, long messages put together from their packets, and the filter of a bridge of four ports. examples/hitch.c
- * has the calls at work, examples/long.c those on long messages; examples/socketcan.c is a loop on Linux' CAN sockets.
+/* The box for C: learning Configuration Identification Messages, judging maps by either edition of the dictionary, packing and reading payloads, what a number means, the answer
+ * to a Parameter Locate, the listing of a log, an image of what the box learned, long messages put together from their packets, and the filter of a bridge of four ports.
+ * examples/hitch.c has the calls at work, examples/long.c those on long messages; examples/socketcan.c is a loop on Linux' CAN sockets.
  *
  * Link with the archive that `rt staticlib firmware` writes (target/staticlib/libfirmware.a). Every function of it is proved against its contract
  * (crates/firmware); this header is not: tests/header and tests/compare/run compare it with the archive.
@@ -8,7 +8,7 @@
  * What it needs:
  * - x86-64 Linux, no other machine, and a compiler of C99 or C++11 or later.
  * - memcpy and memset, which the archive's code calls and which C's library has. It calls nobody else, allocates nothing and keeps nothing between calls.
- * - Stack below the caller's own, in bytes: load, image_body and image_row 14,200; finish 3,200; locate, save and image_size 2,700; judge, pack, read and find 2,500; parameter_at,
+ * - Stack below the caller's own, in bytes: load, image_body and image_row 14,200; finish 3,200; locate, save and image_size 2,800; judge, pack, read and find 2,500; parameter_at,
  *   meaning and scaled 1,700; every other call 400. It is a bound from the archive's code (tests/stack), with 120 for the header's own function where the compiler does not inline it; what
  *   memcpy and memset take is not in it.
  *
@@ -25,6 +25,7 @@
  *   without CAN_RTR_FLAG and CAN_ERR_FLAG. A frame of 11 bits would be taken for another's of 29, and a remote frame has no data.
  * - Look at an answer's number before its detail. Of yendrolf_decide too: pass is number 0 with detail 1; a refusal's detail is 0, and no decision.
  * - Look at a number's state before the number: only a valid one is a reading. 255 of one byte is 'not available', and no pressure.
+ * - A key has the edition of 2010 until another is set. Where its sender follows that of 2004, set it (yendrolf_set_edition) as soon as the key is held, and again after a forget.
  * - Forget a key after answer 10: it stays in conflict, and no later message mends it; its sender has to say the whole map again. And forget every key
  *   that has an address, as source or as destination, when the address changed hands: what is held was another's map (SAE J1939-74, 5.2.3).
  *
@@ -49,7 +50,7 @@ extern "C" {
 #endif
 
 /* The version of the calls: one more when a caller must be built again or changed. yendrolf_version() is that of the archive. */
-#define YENDROLF_VERSION 4u
+#define YENDROLF_VERSION 5u
 
 /* The numbers of answers (document 01, "Answer numbers"; from 21 on document 02, where a number that is not here is not given yet). */
 enum yendrolf_answer {
@@ -78,6 +79,7 @@ enum yendrolf_answer {
     YENDROLF_NOT_IN_IMAGE = 22,         /* key or row not in the image */
     YENDROLF_NOT_EMPTY = 23,            /* the table to load into holds a key */
     YENDROLF_BAD_COMMAND = 24,          /* of locate, a command byte that is not 0; of request, a control byte that is not 16 */
+    YENDROLF_BAD_EDITION = 27,          /* an edition that is not 2004 or 2010 */
     YENDROLF_NO_SESSION = 28,           /* a packet of a pair, source and destination, that has no session */
     YENDROLF_OUT_OF_SEQUENCE = 29,      /* not the packet that comes next: its session is dropped */
     YENDROLF_SESSIONS_FULL = 30,        /* all eight sessions are taken by other pairs */
@@ -90,13 +92,20 @@ enum yendrolf_judgement {
     YENDROLF_USABLE = 0,
     YENDROLF_IN_CONFLICT = 1,           /* two messages of the key contradict each other */
     YENDROLF_MISSING = 2,               /* a position from 1 to n is missing */
-    YENDROLF_UNKNOWN = 3,               /* its SPN is not in the dictionary */
+    YENDROLF_UNKNOWN = 3,               /* its SPN is not in the dictionary of the key's edition */
     YENDROLF_REPEATED = 4,              /* its SPN stands at a lower position too */
     YENDROLF_NOT_ABOVE = 5,             /* its start is not above the start one position before */
     YENDROLF_UNEVEN = 9,                /* its width is odd, and its start is not a multiple of 8: tested after 5 and before 6 */
     YENDROLF_OVERLAPS = 6,              /* it shares a bit with an earlier one */
     YENDROLF_BEYOND = 7,                /* its end is above 14280 */
     YENDROLF_TRANSPORT = 8              /* transport flag yes with a payload of 8 bytes, or no with a longer one */
+};
+
+/* The editions of SAE J1939-74, each with a dictionary of its own: older combines follow the one of September 2004, which has twelve SPNs (3146 to 3155, 3329 and 3330), newer ones that of
+   November 2010, which has these with the same widths, and 128 more. */
+enum yendrolf_edition {
+    YENDROLF_2004 = 2004,
+    YENDROLF_2010 = 2010                /* of a key whose edition was not set */
 };
 
 /* The kind of a number, by the width of its SPN: which row of SAE J1939-71's table says its state. */
@@ -141,7 +150,7 @@ enum yendrolf_size {
     YENDROLF_RECORD_BYTES = 13,         /* bytes of a log's record */
     YENDROLF_LISTING_BYTES = 512,       /* enough for any listing */
     YENDROLF_LOCATE_BYTES = 208,        /* enough for any answer to a Parameter Locate: a record for each of 16 keys */
-    YENDROLF_IMAGE_BYTES = 2594,        /* enough for any image: 16 keys with 31 parameters each, which is as much as messages can teach */
+    YENDROLF_IMAGE_BYTES = 2610,        /* enough for any image: 16 keys with 31 parameters each, which is as much as messages can teach */
     YENDROLF_MOST_SESSIONS = 8,         /* long messages under way at one time */
     YENDROLF_HEAD_WORDS = 32,           /* head words of the sessions */
     YENDROLF_HELD_BYTES = 14280,        /* payload bytes of the sessions, YENDROLF_MOST_BYTES for each */
@@ -179,7 +188,7 @@ typedef struct {
     uint32_t width;
 } yendrolf_found;
 
-/* The parameter at a position: SPN, start and width are 0 on a refusal, and the width is 0 where the dictionary does not have the SPN. */
+/* The parameter at a position: SPN, start and width are 0 on a refusal, and the width is 0 where the dictionary of the key's edition does not have the SPN. */
 typedef struct {
     yendrolf_told told;
     uint32_t spn;
@@ -188,7 +197,7 @@ typedef struct {
 } yendrolf_parameter;
 
 /* What the numbers of an SPN mean: `kind` is of enum yendrolf_kind, resolution and offset are in thousandths of the SPN's unit (docs/UNITS.md has the units). All
-   are 0 where the dictionary does not have the SPN. */
+   are 0 where the dictionary of 2010 does not have the SPN. */
 typedef struct {
     int64_t offset;
     uint32_t resolution;
@@ -204,7 +213,8 @@ typedef struct {
     uint32_t state;
 } yendrolf_value;
 
-/* A row of an image's contents: where the body lies, `offset` from the image's first byte on and `length` bytes, and the key. All are 0 on a refusal. */
+/* A row of an image's contents: where the body lies, `offset` from the image's first byte on and `length` bytes, the key, and its edition (of enum yendrolf_edition). All are 0 on a
+   refusal. */
 typedef struct {
     yendrolf_told told;
     size_t offset;
@@ -212,6 +222,7 @@ typedef struct {
     uint32_t source;
     uint32_t destination;
     uint32_t k;
+    uint32_t edition;
 } yendrolf_row;
 
 /* What a packet is answered: `pgn` is that of the payload which it finished, and 0 where it finished none. */
@@ -282,6 +293,7 @@ YENDROLF_CHECK_FIELD(row, length, 24, 8);
 YENDROLF_CHECK_FIELD(row, source, 32, 4);
 YENDROLF_CHECK_FIELD(row, destination, 36, 4);
 YENDROLF_CHECK_FIELD(row, k, 40, 4);
+YENDROLF_CHECK_FIELD(row, edition, 44, 4);
 YENDROLF_CHECK_STRUCT(arrived, 20);
 YENDROLF_CHECK_FIELD(arrived, told, 0, 16);
 YENDROLF_CHECK_FIELD(arrived, pgn, 16, 4);
@@ -306,6 +318,8 @@ YENDROLF_CHECK_FIELD(log, carry, 32, 13);
 void yendrolf_table_empty(uint64_t *table);
 yendrolf_told yendrolf_table_learn(uint64_t *table, uint32_t identifier, uint8_t length, const uint8_t *data);
 yendrolf_told yendrolf_table_forget(uint64_t *table, uint8_t source, uint8_t destination, uint8_t k);
+yendrolf_told yendrolf_table_set_edition(uint64_t *table, uint8_t source, uint8_t destination, uint8_t k, uint32_t edition);
+uint32_t yendrolf_table_edition(const uint64_t *table, uint8_t source, uint8_t destination, uint8_t k);
 uint32_t yendrolf_table_count(const uint64_t *table, uint8_t source, uint8_t destination, uint8_t k);
 yendrolf_told yendrolf_table_judge(const uint64_t *table, uint8_t source, uint8_t destination, uint8_t k);
 yendrolf_told yendrolf_table_pack(const uint64_t *table, uint8_t source, uint8_t destination, uint8_t k, const uint32_t *numbers, size_t count,
@@ -357,13 +371,27 @@ static inline yendrolf_told yendrolf_forget(yendrolf_box *box, uint8_t source, u
     return yendrolf_table_forget(box->table, source, destination, k);
 }
 
+/* Sets the edition of one held key, YENDROLF_2004 or YENDROLF_2010, and changes nothing else of it: 11; 27 where `edition` is neither; or 0, also of a key in conflict. From then on every
+   width of the key's map is that edition's: in judge, pack, read, find, parameter_at, locate, the listing and the image. No message changes it. A forget does: the key anew has 2010. Which
+   edition a sender follows no message says; it is the caller's to know. */
+static inline yendrolf_told yendrolf_set_edition(yendrolf_box *box, uint8_t source, uint8_t destination, uint8_t k, uint32_t edition)
+{
+    return yendrolf_table_set_edition(box->table, source, destination, k, edition);
+}
+
+/* The edition of a key: 2004 or 2010; 2010 where the key is not held. */
+static inline uint32_t yendrolf_edition(const yendrolf_box *box, uint8_t source, uint8_t destination, uint8_t k)
+{
+    return yendrolf_table_edition(box->table, source, destination, k);
+}
+
 /* The number of parameters of a key's map: how many numbers yendrolf_pack takes and yendrolf_read gives. 0 where the key is in conflict or not held. */
 static inline uint32_t yendrolf_count(const yendrolf_box *box, uint8_t source, uint8_t destination, uint8_t k)
 {
     return yendrolf_table_count(box->table, source, destination, k);
 }
 
-/* Judges a key's map: 11, or 0 with judgement and position. */
+/* Judges a key's map, by the key's edition: 11, or 0 with judgement and position. */
 static inline yendrolf_told yendrolf_judge(const yendrolf_box *box, uint8_t source, uint8_t destination, uint8_t k)
 {
     return yendrolf_table_judge(box->table, source, destination, k);
@@ -397,7 +425,7 @@ static inline yendrolf_found yendrolf_find(const yendrolf_box *box, uint8_t sour
 }
 
 /* The parameter at a position of a key's map, usable or not: 11; 18 where nothing stands there, as at each position of a key in conflict; or 0 with SPN, start
-   and width. After a judgement it says what stands at the position that the judgement names: of 3 the SPN that the dictionary does not have. */
+   and width. After a judgement it says what stands at the position that the judgement names: of 3 the SPN that the dictionary of the key's edition does not have. */
 static inline yendrolf_parameter yendrolf_parameter_at(const yendrolf_box *box, uint8_t source, uint8_t destination, uint8_t k, uint8_t position)
 {
     return yendrolf_table_parameter_at(box->table, source, destination, k, position);
@@ -426,7 +454,7 @@ static inline yendrolf_key yendrolf_next_key(const yendrolf_box *box, uint8_t so
     return yendrolf_table_next_key(box->table, source, destination, k);
 }
 
-/* ---- what a number means, by its SPN. No box is needed: it is the dictionary that knows. */
+/* ---- what a number means, by its SPN. No box is needed: it is the dictionary of 2010 that knows, which has every SPN of 2004 with the same width. */
 
 /* Width, resolution, offset and kind of an SPN. */
 yendrolf_meant yendrolf_meaning(uint32_t spn);
@@ -453,11 +481,12 @@ static inline yendrolf_told yendrolf_finish(const yendrolf_box *box, yendrolf_lo
     return yendrolf_table_finish(box->table, log, text, room);
 }
 
-/* ---- the image of a table (docs/IMAGE.md): what the box learned as bytes that any box can load. It has the keys whose maps are usable, and nothing of the others and of the
-   filters. One table has one image, whatever the order that it learned in; any other bytes are damaged, and each call that is lent an image checks all of it. One that was saved by version 3,
-   and has an odd width that does not start at a multiple of 8, is damaged too: its map is not usable any more. */
+/* ---- the image of a table (docs/IMAGE.md): what the box learned as bytes that any box can load. It has the keys whose maps are usable by their own editions, with these, and nothing of the
+   others and of the filters. One table has one image, whatever the order that it learned in; any other bytes are damaged, and each call that is lent an image checks all of it. An image that
+   was saved by version 4 or earlier (form 1) is read too, its keys as 2010; none is written. One that was saved by version 3, and has an odd width that does not start at a multiple of
+   8, is damaged: its map is not usable any more. */
 
-/* How many bytes the image has: 2,594 at the most in a box that is changed by these calls alone. */
+/* How many bytes the image has: 2,610 at the most in a box that is changed by these calls alone. */
 static inline size_t yendrolf_image_size(const yendrolf_box *box)
 {
     return yendrolf_table_image_size(box->table);
@@ -470,18 +499,18 @@ static inline yendrolf_told yendrolf_save(const yendrolf_box *box, uint8_t *imag
     return yendrolf_table_save(box->table, image, size);
 }
 
-/* Loads an image of exactly `size` bytes into a box that holds no key, as if it heard the messages that the image stands for; the filters stay. 21; 23 where a key is held, be
-   it in conflict; or 0. */
+/* Loads an image of exactly `size` bytes into a box that holds no key, as if it heard the messages that the image stands for and was told their editions; the filters stay. 21; 23 where a key
+   is held, be it in conflict; or 0. */
 static inline yendrolf_told yendrolf_load(yendrolf_box *box, const uint8_t *image, size_t size)
 {
     return yendrolf_table_load(box->table, image, size);
 }
 
-/* Where the body of a key lies in an image: 21, 22, or 0 with offset and length. A body is the data bytes 4 to 8 of the messages of positions 1 to n, so 5 bytes a parameter. No
-   box is needed. */
+/* Where the body of a key lies in an image: 21, 22, or 0 with offset and length, key and edition. A body is the data bytes 4 to 8 of the messages of positions 1 to n, so 5 bytes a
+   parameter. No box is needed. */
 yendrolf_row yendrolf_image_body(const uint8_t *image, size_t size, uint8_t source, uint8_t destination, uint8_t k);
 
-/* A row of the image's contents by its number, from 0 on, keys rising: 21; 22 where there is no such row, which ends a walk; or 0 with the key, offset and length. */
+/* A row of the image's contents by its number, from 0 on, keys rising: 21; 22 where there is no such row, which ends a walk; or 0 with the key, offset, length and edition. */
 yendrolf_row yendrolf_image_row(const uint8_t *image, size_t size, size_t row);
 
 /* ---- the filters. A pair is directed, from one port to another, ports being 1 to 4. */

@@ -1,4 +1,5 @@
 """What the programs `vectors`, `runs`, `meanings`, `locates`, `images` and `transports` are run on, and what the model says they must write."""
+import editions
 import images
 import keys
 import lists
@@ -13,10 +14,10 @@ from dice import Dice
 
 def files():
     """Every file, as its path under crates/ and its bytes."""
-    yield from written("vectors", [*rooms.cases(Dice(74)), *lists.cases(Dice(2010))])
-    yield from written("runs", [*pairs.cases(Dice(31)), *keys.cases(Dice(1939)), *logs.cases(Dice(13))])
+    yield from written("vectors", [*rooms.cases(Dice(74)), *lists.cases(Dice(2010)), *editions.widths(Dice(27))])
+    yield from written("runs", [*pairs.cases(Dice(31)), *keys.cases(Dice(1939)), *editions.cases(Dice(2004)), *logs.cases(Dice(13))])
     yield from written("meanings", [*meanings.cases(Dice(71))])
-    yield from written("locates", [*locates.cases(Dice(44800))])
+    yield from written("locates", [*locates.cases(Dice(44800)), *editions.located(Dice(27))])
     yield from written("images", [*images.cases(Dice(21))])
     yield from written("transports", transports.cases(Dice(60416)))
 

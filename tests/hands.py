@@ -19,7 +19,7 @@ TRACE = (ROOT / "samples" / "trace.txt").read_bytes()
 SHELF = (ROOT / "samples" / "shelf.log").read_bytes()
 IMAGE = (ROOT / "samples" / "shelf.image").read_bytes()
 IN_IMAGE = (ROOT / "samples" / "shelf-image.out").read_text()
-NO_KEYS = bytes([1, 0])   # the image of a table without a usable key
+NO_KEYS = bytes([2, 0])   # the image of a table without a usable key
 NOTHING = "SRC DST MSG N JUDGED AT\nRECORDS 0 REFUSED 0 OTHER 0 LEFT 0\n"
 WAIT = 60   # seconds, for what should end at once
 
@@ -144,9 +144,13 @@ TABLE = [
     lists("./list --image", IN_IMAGE, given=IMAGE),
     lists("./list --image -", IN_IMAGE, given=IMAGE),
     lists("./list --image samples/shelf.image", IN_IMAGE),
+    lists("./list --image samples/shelf-form-1.image", IN_IMAGE),
+    lists("printf '\\001\\000' | ./list --image", NOTHING),
+    lists("printf '\\003\\000' | ./list --image", "", DAMAGED, 1),
     lists("./save samples/shelf.log | ./list --image", IN_IMAGE),
     lists("./save < /dev/null | ./list --image", NOTHING),
-    lists("head -c 30 samples/shelf.image | ./list --image", "", DAMAGED, 1),
+    lists("head -c 32 samples/shelf.image | ./list --image", "", DAMAGED, 1),
+    lists("head -c 30 samples/shelf-form-1.image | ./list --image", "", DAMAGED, 1),
     lists("(cat samples/shelf.image; sleep 0.3; echo) | ./list --image", "", DAMAGED, 1),
     lists("(cat samples/shelf.image; sleep 0.3; head -c 100000 /dev/zero) | ./list --image", "", DAMAGED, 1),
     lists("./list --image < /dev/null", "", DAMAGED, 1),

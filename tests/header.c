@@ -12,6 +12,7 @@ static uint32_t answer_or_judgement(yendrolf_told told)
     case YENDROLF_BAD_FLAG: case YENDROLF_BAD_POSITION: case YENDROLF_BAD_START: case YENDROLF_TABLE_FULL: case YENDROLF_CONTRADICTED:
     case YENDROLF_NOT_HELD: case YENDROLF_BAD_BUFFER: case YENDROLF_TOO_WIDE: case YENDROLF_BAD_PORTS: case YENDROLF_LIST_FULL: case YENDROLF_BAD_PGN:
     case YENDROLF_NOT_LISTED: case YENDROLF_BAD_MODE: case YENDROLF_LIST_NOT_EMPTY: case YENDROLF_DAMAGED: case YENDROLF_NOT_IN_IMAGE: case YENDROLF_NOT_EMPTY:
+    case YENDROLF_BAD_EDITION: return told.number;
     case YENDROLF_BAD_COMMAND: case YENDROLF_NO_SESSION: case YENDROLF_OUT_OF_SEQUENCE: case YENDROLF_SESSIONS_FULL: case YENDROLF_BAD_SIZE: return told.number;
     case YENDROLF_NOT_USABLE: break;
     default: return 0;
@@ -65,6 +66,8 @@ static uint32_t saved_rows(void)
     while ((there = yendrolf_image_row(image, size, row)).told.number == YENDROLF_DONE) {
         yendrolf_row body = yendrolf_image_body(image, size, (uint8_t)there.source, (uint8_t)there.destination, (uint8_t)there.k);   /* a row's numbers are of 32 bits */
         if (body.told.number != YENDROLF_DONE || body.offset != there.offset || body.length != there.length || body.length % 5 != 0)
+            return 99;
+        if (there.edition != yendrolf_edition(&box, (uint8_t)there.source, (uint8_t)there.destination, (uint8_t)there.k) || body.edition != there.edition)
             return 99;
         row++;
     }
@@ -126,6 +129,38 @@ static int nineteen_bits(void)
     return judged.judgement == YENDROLF_UNEVEN && judged.position == 1;
 }
 
+/* Whether a key has 2010 at first, is asked by 2004 once that is set, and is saved and loaded with it: SPN 1517 is not in 2004's dictionary, 3153 is. */
+static int editions(void)
+{
+    static yendrolf_box other, swapped;
+    static uint8_t image[YENDROLF_IMAGE_BYTES];
+    uint8_t data[YENDROLF_FRAME_BYTES] = { 0x00, 0xb1, 0x00, 0xed, 0x05, 0x01, 0x81, 1 };
+    size_t size;
+    yendrolf_start(&other);
+    yendrolf_start(&swapped);
+    if (yendrolf_set_edition(&other, 38, 39, 1, YENDROLF_2004).number != YENDROLF_NOT_HELD)
+        return 0;
+    for (uint8_t k = 1; k <= 2; k++) {
+        yendrolf_learn(&other, 0x18b02726, YENDROLF_FRAME_BYTES, data);
+        if (yendrolf_edition(&other, 38, 39, k) != YENDROLF_2010 || yendrolf_judge(&other, 38, 39, k).judgement != YENDROLF_USABLE)
+            return 0;
+        if (yendrolf_set_edition(&other, 38, 39, k, 2007).number != YENDROLF_BAD_EDITION || yendrolf_set_edition(&other, 38, 39, k, YENDROLF_2004).number != YENDROLF_DONE)
+            return 0;
+        if (yendrolf_edition(&other, 38, 39, k) != YENDROLF_2004 || yendrolf_judge(&other, 38, 39, k).judgement != (k == 1 ? YENDROLF_UNKNOWN : YENDROLF_USABLE))
+            return 0;
+        data[1] = 0xb2;
+        data[3] = 0x51;   /* SPN 3153, 0C51h */
+        data[4] = 0x0c;
+    }
+    size = yendrolf_image_size(&other);
+    if (yendrolf_save(&other, image, sizeof image).number != YENDROLF_DONE || yendrolf_load(&swapped, image, size).number != YENDROLF_DONE)
+        return 0;
+    if (yendrolf_image_row(image, size, 0).edition != YENDROLF_2004 || yendrolf_image_row(image, size, 1).edition != 0 || yendrolf_edition(&swapped, 38, 39, 2) != YENDROLF_2004)
+        return 0;
+    yendrolf_forget(&swapped, 38, 39, 2);
+    return yendrolf_edition(&swapped, 38, 39, 2) == YENDROLF_2010;
+}
+
 int main(void)
 {
     static const uint8_t data[YENDROLF_FRAME_BYTES] = { 0x00, 0xb1, 0x00, 0xed, 0x05, 0x01, 0x81, 1 };
@@ -141,7 +176,7 @@ int main(void)
     yendrolf_empty(&box);
     yendrolf_fresh(&box);
     sum += answer_or_judgement(yendrolf_learn(&box, 0x18b02726, YENDROLF_FRAME_BYTES, data));
-    if (saved_rows() != 1 || !nineteen_bits())
+    if (saved_rows() != 1 || !nineteen_bits() || !editions())
         return 1;
     yendrolf_told answered = yendrolf_locate(&box, 38, 0x18af26f9, YENDROLF_FRAME_BYTES, asked, located, sizeof located, 0);
     if (answered.number != YENDROLF_DONE || answered.detail != 1 || located[0] != 38 || located[12] != 1)

@@ -1,12 +1,12 @@
-"""The cases of the learned table: learning, forgetting, the held keys, what is asked about a key, and listings. Tags 4 to 15 of the
-program `runs`. tests/logs.py has more of the listings."""
+"""The cases of the learned table: learning, forgetting, the held keys, what is asked about a key, and listings. Tags 4 to 17 of the
+program `runs`. tests/logs.py has more of the listings, tests/editions.py of the editions."""
 import meanings
 import model
 import rooms
 from dice import TOP, case, line, word, words
 from lists import KNOWN, ODD, number_for, size_of, some_spns, starts_for
 from model import Answer, Message
-from words import Words, cell_of
+from words import OLD, Words, cell_of
 
 EXAMPLE = Message(38, 39, 1, 2, 1, 0, 1, 1517, 0)
 
@@ -55,6 +55,10 @@ class Run:
         for key in keys:
             self.add(5, bytes(key), line(*self.says("forget", key)))
 
+    def set_edition(self, key, *editions):
+        for edition in editions:
+            self.add(16, bytes(key) + word(edition), line(*self.says("set_edition", key, edition)))
+
     def write(self, place, value):
         self.models = self.models[-1:]
         self.models[0].words[place] = value
@@ -67,6 +71,10 @@ class Run:
 
     def next(self, key):
         self.add(7, bytes(key), line("next", *(self.says("next_key", key) or ())))
+
+    def edition(self, *keys):
+        for key in keys:
+            self.add(17, bytes(key), line("edition", self.says("edition", key)))
 
     def dump(self):
         held = self.models[-1].words
@@ -113,6 +121,7 @@ class Run:
 
     def ask(self, dice, key):
         """Everything that can be asked about a key: as it should be, and with lengths, numbers, SPNs and positions that are wrong."""
+        self.edition(key)
         self.judge(key)
         self.parameter(key, *sorted({*range(min(self.says("count", key) + 3, 256)), 64, 65, 255}))
         rows = self.rows(key)
@@ -167,16 +176,34 @@ def some_key(dice):
 
 def teachable(dice, key, n, bits=249, having=None):
     """The messages of a usable map that the wire can carry: starts up to 249. Where an SPN is named, it stands at one of the positions."""
+    def spns():
+        drawn = some_spns(dice, n)
+        if having is not None and having not in drawn:
+            drawn[dice.below(n)] = having
+        return drawn
+    return laid_out(dice, key, spns, bits)
+
+
+OF_2004 = sorted(model.EDITIONS[model.OLDER])
+
+
+def teachable_2004(dice, key, n, bits=249):
+    """The same of SPNs that 2004 has, all of them where n is larger: usable by both editions."""
+    told = laid_out(dice, key, lambda: dice.some(min(n, len(OF_2004)), OF_2004), bits)
+    assert model.judge(model.map_of(told, model.OLDER)) == (0, 0)
+    return told
+
+
+def laid_out(dice, key, draw, bits):
+    """The messages of a map with the SPNs that are drawn, drawn again until no start is above `bits`."""
     while True:
-        spns = some_spns(dice, n)
-        if having is not None and having not in spns:
-            spns[dice.below(n)] = having
+        spns = draw()
         widths = [model.WIDTHS[spn] for spn in spns]
         starts = starts_for(dice, widths, dice.one_of([0, 0, dice.below(9), dice.below(60)]), lambda: dice.one_of([0, 0, 0, 1, dice.below(6)]))
         if starts[-1] <= bits:
             transport = 1 if size_of(starts, widths) > 8 else 0
             proprietary = dice.below(2)
-            told = [Message(*key, n, proprietary, transport, p, spn, start) for p, (spn, start) in enumerate(zip(spns, starts), 1)]
+            told = [Message(*key, len(spns), proprietary, transport, p, spn, start) for p, (spn, start) in enumerate(zip(spns, starts), 1)]
             assert model.judge(model.map_of(told)) == (0, 0)
             return told
 
@@ -508,9 +535,9 @@ def any_calls(dice):
 
 # ---- Words that no run makes
 
-def row_for(dice, key, rows, state=1, more_of_form=0):
+def row_for(dice, key, rows, state=1, more_of_form=0, old=0):
     """A row's words, for the (SPN, start) of its positions."""
-    form = len(rows) + 256 * dice.below(2) + 1024 * more_of_form
+    form = len(rows) + 256 * dice.below(2) + OLD * old + 2 * OLD * more_of_form
     if model.length_of([(start, model.WIDTHS.get(spn, 0)) for spn, start in rows]) > 8:
         form += 512
     source, destination, k = key
@@ -543,7 +570,7 @@ def strange_rows(dice):
             row_for(dice, (1, 2, 7), [(1517, 14273)]),
             row_for(dice, (1, 2, 8), [(1519, 0), (1517, 2**32 - 1)]),
             row_for(dice, (254, 2, 0), [(1519, 0), (2**32 - 1, 8)]),
-            row_for(dice, (255, 255, 255), [(1519, 0), (1517, 8)], more_of_form=2**54 - 1),
+            row_for(dice, (255, 255, 255), [(1519, 0), (1517, 8)], more_of_form=2**53 - 1),
             row_for(dice, (1, 2, 3), [(1517, 0)], state=2),
             row_for(dice, (1, 2, 9), [(1517, 0)], state=2**64 - 1),
             [1, 2**24, 1, 1 + 1517],
@@ -586,24 +613,28 @@ def any_words(dice):
         kind = dice.below(7)
         if kind < 3:
             row = row_for(dice, key, long_map(dice, dice.one_of([1, 2, 3, dice.within(1, 20)]), dice.one_of([None] * 5 + [14280, 14281])),
-                          dice.one_of([1, 1, 1, 1, 0, 2, 3, 2**32, 2**64 - 1]), dice.one_of([0, 0, dice.below(2**32)]))
+                          dice.one_of([1, 1, 1, 1, 0, 2, 3, 2**32, 2**64 - 1]), dice.one_of([0, 0, dice.below(2**32)]), dice.one_of([0, 0, 0, 1]))
         elif kind == 3:
-            m = [message for message in teachable(dice, key, how_many(dice))]
-            row = [1, *row_for(dice, key, [])[1:2], m[0].n + 256 * m[0].proprietary + 512 * m[0].transport] + [cell_of(message) for message in m]
+            old = dice.below(2)
+            m = (teachable_2004 if old else teachable)(dice, key, how_many(dice))
+            row = [1, *row_for(dice, key, [])[1:2], m[0].n + 256 * m[0].proprietary + 512 * m[0].transport + OLD * old] + [cell_of(message) for message in m]
         elif kind == 4:
             n = dice.one_of([0, 1, 2, 5, 63, 64, 65, 200, 255])
-            row = [1, *row_for(dice, key, [])[1:2], n + 256 * dice.below(4)] + [any_cell(dice) for _ in range(dice.one_of([n, n, dice.below(65)]))]
+            row = [1, *row_for(dice, key, [])[1:2], n + 256 * dice.below(8)] + [any_cell(dice) for _ in range(dice.one_of([n, n, dice.below(65)]))]
         elif kind == 5:   # an odd width at the last bits
-            row = row_for(dice, key, [(1517, 3), (dice.one_of(ODD), dice.one_of([14248, 14255, 14256, 14257, 14263, 14264, 14272]))][dice.below(2):])
+            row = row_for(dice, key, [(1517, 3), (dice.one_of(ODD), dice.one_of([14248, 14255, 14256, 14257, 14263, 14264, 14272]))][dice.below(2):], old=dice.below(2))
         else:
             row = [dice.one_of([0, 1, 1, dice.below(2**32)]), dice.one_of([dice.below(2**24), 2**24 + dice.below(9), dice.below(2**32) * 2**32]),
-                   dice.one_of([dice.below(2**10), dice.below(2**32) * 2**32 + dice.below(2**10)])] + [any_cell(dice) for _ in range(4)]
+                   dice.one_of([dice.below(2**11), dice.below(2**32) * 2**32 + dice.below(2**11)])] + [any_cell(dice) for _ in range(4)]
         write_row(run, i, row)
     run.keys()
     for _ in range(30):
         key = dice.one_of(keys)
-        what = dice.below(12)
-        if what < 5:
+        what = dice.below(14)
+        if what >= 12:
+            run.set_edition(key, dice.one_of([model.OLDER, model.OLDER, model.NEWER, dice.below(2**32)]))
+            run.dump()
+        elif what < 5:
             run.learn(*learnable(dice, run, key))
         elif what < 6:
             run.forget(key)

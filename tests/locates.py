@@ -4,13 +4,14 @@ A case is 32 bytes, and behind those of tag 3 the bytes of the log. Numbers of s
 
     byte 0          the tag
     bytes 1 to 13   tags 1 and 3: a frame as it stands in a record: identifier (4), length (1), data (8)
-    bytes 1 to 3    tag 2: a key: source, destination, k
+    bytes 1 to 3    tags 2 and 4: a key: source, destination, k
+    bytes 4 to 7    tag 4: an edition
     byte 14         tag 3: our own address
     bytes 15, 16    tag 3: the length of the log, 600 at the most
     bytes 17 to 24  tag 3: the byte of the log to start at, any number of 64 bits
 
-Tag 0 makes the table empty, 1 learns from the frame, 2 forgets the key: no line. Tag 3 asks: its line has the answer's number, its detail, and the whole log in hexadecimal
-digits (a log of no bytes is a line that ends in a space). The table starts empty."""
+Tag 0 makes the table empty, 1 learns from the frame, 2 forgets the key, 4 sets its edition: no line. Tag 3 asks: its line has the answer's number, its detail, and the whole log in
+hexadecimal digits (a log of no bytes is a line that ends in a space). The table starts empty. tests/editions.py has the cases of editions."""
 import keys
 import model
 import rooms
@@ -118,6 +119,10 @@ class Run:
         for key in keys:
             self.box.forget(key)
             self.add(2, bytes(key))
+
+    def set_edition(self, key, edition):
+        self.box.set_edition(key, edition)
+        self.add(4, bytes(key) + word(edition))
 
     def locate(self, own, frame, log, start=0):
         """The answer, and the records that it wrote."""

@@ -103,13 +103,18 @@ def decode(identifier, length, eight):
 
 # ---- A set and its judgement
 
-def dictionary():
-    """'Each SPN in 002 with a fixed length of 1 to 32 bits, once, with its width', from tests/spns.txt."""
-    with open(os.path.join(HERE, "spns.txt")) as rows:
+def dictionary(name):
+    """'Each SPN in 002 with a fixed length of 1 to 32 bits, once, with its width', from tests/spns.txt; the same of 000 (Req 10) from tests/spns2004.txt."""
+    with open(os.path.join(HERE, name)) as rows:
         return {int(spn): int(width) for spn, width in (row.split() for row in rows)}
 
 
-WIDTHS = dictionary()
+WIDTHS = dictionary("spns.txt")
+
+# Req 10: 'Keep both dictionaries and give each key an edition .. A fresh key has 2010.'
+OLDER, NEWER = 2004, 2010
+EDITIONS = {OLDER: dictionary("spns2004.txt"), NEWER: WIDTHS}
+FRESH = NEWER
 
 
 def contradict(a, b):
@@ -178,11 +183,11 @@ def judge_map(n, transport, rows):
 CONFLICT = "in conflict"
 
 
-def map_of(messages):
-    """What a key's messages make: CONFLICT, or n, the transport flag and what stands at each position."""
+def map_of(messages, edition=FRESH):
+    """What a key's messages make: CONFLICT, or n, the transport flag and what stands at each position, its width by the key's edition (Req 10)."""
     if in_conflict(messages):
         return CONFLICT
-    said = {m.position: (m.spn, m.start, WIDTHS.get(m.spn, 0)) for m in messages}
+    said = {m.position: (m.spn, m.start, EDITIONS[edition].get(m.spn, 0)) for m in messages}
     n, transport = messages[0].n, messages[0].transport
     return n, transport, [said.get(p) for p in range(1, n + 1)]
 
@@ -232,10 +237,11 @@ def read_places(placed, payload, room):
 # ---- The box
 
 class Box:
-    """What one box holds: for each held key its set, for each port pair its mode and list."""
+    """What one box holds: for each held key its set, and its edition where one was set; for each port pair its mode and list."""
 
     def __init__(self):
         self.sets = {}
+        self.editions = {}
         self.pairs = {(a, b): Mode(0, []) for a in range(1, 5) for b in range(1, 5) if a != b}
 
     def learn(self, identifier, length, eight):
@@ -256,11 +262,25 @@ class Box:
         if key not in self.sets:
             return Answer(11)
         del self.sets[key]
+        self.editions.pop(key, None)
         return Answer(0)
+
+    def set_edition(self, key, edition):
+        """Req 10: 'a command changes one held key's edition and nothing else of it', refusals '11, then 27 for another edition'."""
+        if key not in self.sets:
+            return Answer(11)
+        if edition not in EDITIONS:
+            return Answer(27)
+        self.editions[key] = edition
+        return Answer(0)
+
+    def edition(self, key):
+        """Req 10: 'the edition last set since' the key's last forget; 'a fresh key has 2010', and here one that is not held."""
+        return self.editions.get(key, FRESH)
 
     def map(self, key):
         """The key's map, or None where it is not held."""
-        return map_of(self.sets[key]) if key in self.sets else None
+        return map_of(self.sets[key], self.edition(key)) if key in self.sets else None
 
     def count(self, key):
         """'N is 0 for a key in conflict', and here for one that is not held."""
@@ -317,13 +337,13 @@ class Box:
         return next(((m.spn, m.start) for m in self.sets[key] if m.position == position), None)
 
     def parameter(self, key, position):
-        """What stands at a position of a key's map, usable or not: 11, then 18 where nothing does; the width is 0 where the dictionary hasn't the SPN."""
+        """What stands at a position of a key's map, usable or not: 11, then 18 where nothing does; the width is 0 where the dictionary of its edition hasn't the SPN."""
         if self.map(key) is None:
             return Parameter(Answer(11), 0, 0, 0)
         place = self.place(key, position)
         if place is None:
             return Parameter(Answer(18), 0, 0, 0)
-        return Parameter(Answer(0), *place, WIDTHS.get(place[0], 0))
+        return Parameter(Answer(0), *place, EDITIONS[self.edition(key)].get(place[0], 0))
 
     def keys(self):
         """The held keys, 'rising by source, destination, k'."""

@@ -28,7 +28,7 @@ def facts_of_box(box, counts):
     lines = []
     for key in box.keys():
         held = box.map(key)
-        lines.append(line("key", *key, *model.judge(held), box.count(key), 0 if held == model.CONFLICT else held[1]))
+        lines.append(line("key", *key, *model.judge(held), box.count(key), 0 if held == model.CONFLICT else held[1], box.edition(key)))
         for position in range(1, box.count(key) + 1):
             found = box.parameter(key, position)
             if found.answer.number == 0:
@@ -229,9 +229,9 @@ def wide(facts, most):
     return f"no line of more than {most} columns: {facts.splitlines()[1]} ..", check
 
 
-def one_key(judged, *places):
+def one_key(judged, *places, edition=2010):
     """The facts of a key with that judgement and position, and what stands at its positions."""
-    return line("key", 38, 39, 1, *judged, max(p[0] for p in places), 0) + "".join(line("at", *p) for p in places) + line("end", 1, 0, 0, 0)
+    return line("key", 38, 39, 1, *judged, max((p[0] for p in places), default=0), 0, edition) + "".join(line("at", *p) for p in places) + line("end", 1, 0, 0, 0)
 
 
 TOP = "Shelf of here: 1 key, %d usable\nBytes and bits are counted from 1; bit 1 is the lowest of its byte.\n\n38 to 39, message 1\n"
@@ -252,7 +252,11 @@ CHECKS = [
     words("./shelf samples/odd.log", "odd.shelf"),
     words("./shelf samples/empty.log", "empty.shelf"),
     words("./shelf samples/cut.log", "cut.shelf", "shelf: " + CUT + ", or use --image where it is an image", 1),
+    words("./shelf samples/editions.log", "editions.shelf"),
+    words("./shelf --image samples/editions.image", "editions-image.shelf"),
     words("./shelf --image samples/shelf.image", "shelf-image.shelf"),
+    ("./shelf --image samples/shelf-form-1.image: samples/shelf-image.shelf, but for its name",
+        "./shelf --image samples/shelf-form-1.image >target/shelf && sed 's/shelf-form-1/shelf/' target/shelf | diff samples/shelf-image.shelf -"),
     words("./shelf samples/shelf.image --image", "shelf-image.shelf"),
     words("./shelf --addresses samples/addresses.txt samples/shelf.log", "shelf-named.shelf"),
     words("./shelf samples/shelf.log --addresses=samples/addresses.txt", "shelf-named.shelf"),
@@ -261,7 +265,8 @@ CHECKS = [
     words("./why samples/seventeen.log", "seventeen.why"),
     words("./why samples/cut.log", "cut.why", "why: " + CUT, 1),
     words("./why --addresses samples/addresses.txt samples/shelf.log", "shelf-named.why"),
-    ("./shelf --facts --image prints of samples/shelf.image what the model does", "./shelf --facts --image samples/shelf.image >target/facts && tests/facts --image samples/shelf.image | diff - target/facts"),
+    *[(f"./shelf --facts --image prints of samples/{name}.image what the model does", f"./shelf --facts --image samples/{name}.image >target/facts && tests/facts --image samples/{name}.image | diff - target/facts")
+        for name in ("shelf", "shelf-form-1", "editions")],
     ("crates/shelves and crates/reasons are run on samples/shelf.log, and write what the model does", "cmp crates/shelves/stdin samples/shelf.log && cmp crates/reasons/stdin samples/shelf.log && "
         "tests/facts samples/shelf.log | cmp - crates/shelves/stdout && tests/facts --why samples/shelf.log | cmp - crates/reasons/stdout"),
     ("./shelf and ./why on logs at random", lambda: at_random(3)),
@@ -287,6 +292,13 @@ POS   SPN  NAME                          START          BITS  UNIT   STEP
 1-4     -  missing                       -                 -  -      -
   5  1518  Header Sensor Identification  byte 2, bit 1     8  count  1 count/bit
 """ + END),
+    sets(one_key((3, 1), (1, 1517, 0, 0), edition=2004), TOP % 0 + """  position 1: SPN 1517 is not in the dictionary of 2004
+  1 parameter, transport no, edition of 2004
+POS   SPN  NAME                           START          BITS  UNIT  STEP
+  1  1517  not in the dictionary of 2004  byte 1, bit 1     -  -     -
+""" + END),
+    sets(one_key((1, 0), edition=2004), (TOP % 0).replace("Bytes and bits are counted from 1; bit 1 is the lowest of its byte.\n", "")
+        + "  in conflict: its messages contradict each other\n  edition of 2004\n" + END.replace("PGNs.\n", "PGNs.\n./why says which records were refused or contradict others, and why.\n")),
     sets("no 1 7 38 39 45312\nend 1 0 0\n", "record 1, from 38 to 39, message 1\n    answer 7: n outside 1..64, position outside 1..n, or first-only with\n    position not 1\n"
         "1 record: 1 refused (answer 7: 1), 0 contradicting, 0 other\n", "why"),
     sets(EVERY + "end 12 3 0\n", """record 1
@@ -314,7 +326,8 @@ record 10, from 38 to 39, message 1
     *[wide(one_key((0, 0), *((i, spn, 14000 + i, model.WIDTHS[spn]) for i, spn in enumerate(some, 1))), 100 if {"3147", "3154"} & set(map(str, some)) else 80)
         for some in (sorted(model.WIDTHS)[at:at + 31] for at in range(0, 140, 31))],
     wide(one_key((3, 30), *((i, 524287, 14279, 0) for i in (1, 30, 64))), 80),
-    row("tools/shelf.py shelf", "key 38 39 1 0 0 1 0\n", 1, b"", ""),
+    row("tools/shelf.py shelf", "key 38 39 1 0 0 1 0 2010\n", 1, b"", ""),
+    row("tools/shelf.py shelf", "key 38 39 1 0 0 1 0\n", 1, b"", "shelf: the program printed what is no fact"),
     row("tools/shelf.py shelf", "at 1 1517 0 8\n", 1, b"", "shelf: the program printed what is no fact"),
     row("tools/shelf.py why", "no 1 4\n", 1, b"", "why: the program printed what is no fact"),
 

@@ -2,13 +2,14 @@
 run of calls makes; on all others it must answer as the sets do, and tests/keys.py holds it to that.
 
 16 rows of 67 words. Of a row: its state (0 free, 1 held, any other: in conflict), its key's number, its form (n, the proprietary flag
-times 256, the transport flag times 512; what is above counts for nothing), and for each position 1 to 64 a cell (0 nothing, else
-1 + SPN + start times 2^32). The lowest row that is not free and has a key's number is that key's. A number of 2^24 or more is no
-key's."""
+times 256, the transport flag times 512, 1024 where its edition is 2004; what is above counts for nothing), and for each position 1 to 64
+a cell (0 nothing, else 1 + SPN + start times 2^32). The lowest row that is not free and has a key's number is that key's. A number of
+2^24 or more is no key's."""
 import model
 from model import Answer
 
 ROWS, WIDTH = 16, 67
+OLD = 1024   # of a form
 
 
 def number_of(key):
@@ -44,7 +45,7 @@ class Words(model.Box):
         return [i for i, row in enumerate(self.rows()) if row[0] != 0 and row[1] == number_of(key)]
 
     def take(self, message):
-        """A new key takes the lowest free row. A contradiction changes the state of the row and no other word."""
+        """A new key takes the lowest free row, and has 2010. A contradiction changes the state of the row and no other word."""
         form, cell = form_of(message), cell_of(message)
         held = self.rows_of(message[:3])
         if not held:
@@ -71,6 +72,21 @@ class Words(model.Box):
             self.words[WIDTH * i] = 0
         return Answer(0 if held else 11)
 
+    def set_edition(self, key, edition):
+        """One bit of the form of the key's row, and nothing else."""
+        held = self.rows_of(key)
+        if not held:
+            return Answer(11)
+        if edition not in model.EDITIONS:
+            return Answer(27)
+        at = WIDTH * held[0] + 2
+        self.words[at] += OLD * ((edition == model.OLDER) - self.words[at] // OLD % 2)
+        return Answer(0)
+
+    def edition(self, key):
+        held = self.rows_of(key)
+        return model.OLDER if held and self.rows()[held[0]][2] // OLD % 2 else model.NEWER
+
     def map(self, key):
         held = self.rows_of(key)
         if not held:
@@ -79,8 +95,8 @@ class Words(model.Box):
         if state != 1:
             return model.CONFLICT
         n, transport = form % 256, form // 512 % 2
-        places = [place_of(cell) for cell in cells]
-        return n, transport, [(*place, model.WIDTHS.get(place[0], 0)) if place else None
+        places, widths = [place_of(cell) for cell in cells], model.EDITIONS[self.edition(key)]
+        return n, transport, [(*place, widths.get(place[0], 0)) if place else None
                               for place in (places + [None] * n)[:n]]
 
     def place(self, key, position):

@@ -26,7 +26,7 @@ JUDGEMENTS = {
     0: "usable",
     1: "in conflict: its messages contradict each other",
     2: "position {p} is missing",
-    3: "position {p}: SPN {spn} is not in the dictionary",
+    3: "position {p}: SPN {spn} is not in {dictionary}",
     4: "position {p}: SPN {spn} stands at a lower position too",
     5: "position {p}: its start is not above the start one position before",
     6: "position {p}: it shares a bit with an earlier one",
@@ -49,8 +49,9 @@ ANSWERS = {
 }
 CONTRADICTS = 10
 MESSAGES = {45056 + 256 * k: k for k in range(1, 16)}      # the fifteen configured PGNs
+FRESH = 2010        # the edition of a key that nobody set: only another is told
 
-Key = namedtuple("Key", "source destination k judgement position n transport places")
+Key = namedtuple("Key", "source destination k judgement position n transport edition places")
 Place = namedtuple("Place", "spn start width")
 Unit = namedtuple("Unit", "name unit step")
 Row = namedtuple("Row", "position spn name start bits unit step")
@@ -137,7 +138,7 @@ def read_shelf(facts):
     """The keys and the four counts, or None where the facts are not whole."""
     keys = []
     for line in facts:
-        if said := numbers_of(line, "key", 7):
+        if said := numbers_of(line, "key", 8):
             keys.append(Key(*said, {}))
         elif (said := numbers_of(line, "at", 4)) and keys:
             keys[-1].places[said[0]] = Place(*said[1:])
@@ -166,18 +167,24 @@ class Words:
     def heading(self, key):
         return f"{self.who(key.source)} to {self.who(key.destination)}, message {key.k}"
 
+    def dictionary(self, key):
+        return "the dictionary" if key.edition == FRESH else f"the dictionary of {key.edition}"
+
     def judgement(self, key):
         place = key.places.get(key.position, Place(0, 0, 0))
-        return JUDGEMENTS.get(key.judgement, f"judgement {key.judgement}, position {{p}}").format(p=key.position, spn=place.spn, width=place.width)
+        return JUDGEMENTS.get(key.judgement, f"judgement {key.judgement}, position {{p}}").format(
+            p=key.position, spn=place.spn, width=place.width, dictionary=self.dictionary(key))
 
     def form(self, key):
-        """What the map says of itself; nothing of a key in conflict."""
-        return f"{counted(key.n, 'parameter')}, transport {'yes' if key.transport else 'no'}" if key.n else ""
+        """What the map says of itself, nothing of a key in conflict; and the edition that it is judged by, where one was set."""
+        said = [counted(key.n, "parameter"), f"transport {'yes' if key.transport else 'no'}"] if key.n else []
+        return ", ".join(said + ([] if key.edition == FRESH else [f"edition of {key.edition}"]))
 
-    def row(self, position, place):
+    def row(self, key, position):
+        place = key.places[position]
         start = f"byte {place.start // 8 + 1}, bit {place.start % 8 + 1}"
         if place.width == 0:
-            return Row(str(position), str(place.spn), "not in the dictionary", start, "-", "-", "-")
+            return Row(str(position), str(place.spn), f"not in {self.dictionary(key)}", start, "-", "-", "-")
         if place.spn not in self.units:
             raise Wrong(f"docs/UNITS.md has no SPN {place.spn}: take it from the repository again")
         known = self.units[place.spn]
@@ -189,7 +196,7 @@ class Words:
         while position <= key.n:
             last = position
             if position in key.places:
-                rows.append(self.row(position, key.places[position]))
+                rows.append(self.row(key, position))
             else:
                 while last < key.n and last + 1 not in key.places:
                     last += 1
@@ -337,8 +344,9 @@ def set_page(words, keys, first, last):
     for key in keys:
         yield f"<section>\n<h2>{html.escape(words.heading(key))}</h2>"
         yield f'<p class="judgement">{html.escape(words.judgement(key))}</p>'
-        if key.n:
+        if words.form(key):
             yield f"<p>{html.escape(words.form(key))}</p>"
+        if key.n:
             yield f"<table>\n<thead>{cells(PAGE_HEADS, 'th')}</thead>\n<tbody>"
             yield from (cells(row, "td") for row in words.rows(key))
             yield "</tbody>\n</table>"

@@ -56,10 +56,14 @@ def definitions(lines):
 
 def rows(path):
     """The rows, as (SPN, width, line)."""
-    found = {}
     with open(path, encoding='utf-8') as text:
-        lines = text.read().split('\n')
-    for spn, length, at in definitions(lines):
+        return fixed(definitions(text.read().split('\n')))
+
+
+def fixed(defined):
+    """Of definitions those with a fixed length of 1 to 32 bits, as (SPN, width, line), once each and rising."""
+    found = {}
+    for spn, length, at in defined:
         bits = width(length)
         if not 1 <= bits <= 32:
             print(f'left out: {spn}, line {at}, Data Length: {length}', file=sys.stderr)

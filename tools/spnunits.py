@@ -31,6 +31,9 @@ The four states of two bits are in 002's words. The calls say of any two bits th
 says of a command that 2 is reserved and 3 asks for no action. Of a byte, two or four, the top byte decides: up to 250 valid, 251 to 253 reserved, 254 error, 255 not
 available. Any other width is always valid.
 
+The dictionary of 2004 (000; Req 10) has twelve of these SPNs, 3146 to 3155, 3329 and 3330, with the widths and steps that they have here: what a number is worth does not
+depend on the edition of its key.
+
 | SPN | name | bits | unit | step | offset | range or states | resolution, thousandths | offset, thousandths |
 |---|---|---|---|---|---|---|---|---|"""
 

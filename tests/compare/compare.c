@@ -41,9 +41,10 @@ static yendrolf_box before;           /* the library's before the call */
 
 static uint64_t seed, calls, checks;
 
-enum call { LEARN, FORGET, COUNT, JUDGE, PACK, READ, FIND, PARAMETER, LOCATE, MEANING, SCALED, KEYS, ADD, DELETE, RENEW, DECIDE, LIST, SAVE, LOAD, BODY, ROW, REQUEST, PACKET, KINDS };
+enum call { LEARN, FORGET, COUNT, JUDGE, PACK, READ, FIND, PARAMETER, LOCATE, MEANING, SCALED, KEYS, ADD, DELETE, RENEW, DECIDE, LIST, SAVE, LOAD, BODY, ROW, REQUEST, PACKET, SET, EDITION,
+    KINDS };
 static const char *const call_names[KINDS] = { "learn", "forget", "count", "judge", "pack", "read", "find", "parameter", "locate", "meaning", "scaled", "next key", "add",
-    "delete", "renew", "decide", "listing", "save", "load", "body", "row", "request", "packet" };
+    "delete", "renew", "decide", "listing", "save", "load", "body", "row", "request", "packet", "set", "edition" };
 #define LAST_ANSWER 31
 static uint64_t answers[KINDS][LAST_ANSWER + 1], kinds[KINDS];
 static uint64_t judgements[2][10];    /* of judging, and of answer 12 */
@@ -61,6 +62,9 @@ static uint64_t replaced, carried, strange_calls;   /* sessions that a request o
 static uint64_t odd_packed, in_skipped;   /* numbers packed that have an odd width, and that stand in the bits which one skips */
 static uint64_t looked_back;          /* judgements 6 that the position before does not earn */
 static uint64_t uneven_images;        /* images with an odd width off its multiple of 8 */
+static uint64_t judged_2004[10];      /* judgements of keys whose edition is 2004 */
+static uint64_t packed_2004, located_2004, saved_2004, loaded_2004;   /* of such keys: payloads packed, records of a locate, rows of saved images and of loaded ones */
+static uint64_t of_form[3], undamaged_of_form[3];   /* bytes that were tried as an image, by their form (0 any other), and how many were one */
 
 static char told_call[512];           /* the call under way, for a report */
 
@@ -124,6 +128,7 @@ static unsigned scene_keys;
 static int laid;                      /* the maps of this scene are laid into the words, not taught by frames */
 static uint32_t scene_pgns[40];
 static uint32_t scene_spn;            /* that many maps of this scene have, or 0 */
+static int scene_old;                 /* most SPNs of this scene are those that 2004 has */
 
 /* SPNs of each width that 002 has, and some that the dictionary has not. */
 static const uint32_t known[] = { 1488, 1489, 1490, 1497, 1517, 1519, 3146, 3147, 3148, 3149, 3150, 3151, 3152, 3153, 3154, 3155, 3329, 3330, 3333 };
@@ -133,10 +138,16 @@ static const uint32_t unknown[] = { 0, 1, 521, 1487, 1518, 2848, 3334, 65536, 66
 static const uint32_t of_odd_width[] = { 3147, 3154 };
 static const uint32_t small[] = { 1497, 1498, 1519, 1520, 3148, 3149, 3150, 3151, 3152 };
 
+/* Those that 2004 has, and the small ones of these. */
+static const uint32_t of_2004[] = { 3146, 3147, 3148, 3149, 3150, 3151, 3152, 3153, 3154, 3155, 3329, 3330 };
+static const uint32_t small_2004[] = { 3148, 3149, 3150, 3151, 3152 };
+
 static uint32_t any_spn(void)
 {
     if (one_in(200))
         return PICK(unknown);
+    if (scene_old && !one_in(40))
+        return PICK(of_2004);
     if (one_in(12))
         return PICK(of_odd_width);
     if (scene_spn && one_in(3))
@@ -196,7 +207,9 @@ static unsigned next_start(struct spots *s, unsigned width, unsigned gap)
 /* The SPN behind the first ones of a map: behind an odd width mostly a small one, which fits into the bits that it skips. */
 static uint32_t next_spn(const struct intended *m, unsigned positions)
 {
-    return positions && plain_odd(plain_width(m->spn[positions])) && !one_in(3) ? PICK(small) : any_spn();
+    if (positions && plain_odd(plain_width(m->spn[positions])) && !one_in(3))
+        return scene_old ? PICK(small_2004) : PICK(small);
+    return any_spn();
 }
 
 /* Whether a map of many positions has no room for this SPN: for the two of odd widths it has. */
@@ -218,10 +231,12 @@ static unsigned odd_position(const struct intended *m)
 static void intend(struct intended *m, unsigned most, unsigned last)
 {
     unsigned want = one_in(3) ? 1 + below(most) : one_in(2) ? 1 + below(most < 9 ? most : 9) : 1 + below(3);
+    if (scene_old && want > 10)   /* 2004 has twelve */
+        want = 1 + below(10);
     struct spots spots = { one_in(2) ? below(9) : 0, 0, 0 };
     if (one_in(8))
         spots.end = last > 80 ? last - below(80) : 0;
-    if (one_in(8))
+    if (one_in(8) && !scene_old)
         want = most;
     m->n = 0;
     for (unsigned p = 1; p <= want; p++) {
@@ -298,7 +313,8 @@ static void set_scene(unsigned most, unsigned last)
     static const uint8_t ks[] = { 1, 2, 7, 14, 15 };
     unsigned few = below(3);
     uint8_t one_source = PICK(sources);
-    scene_spn = one_in(3) ? PICK(known) : 0;
+    scene_old = one_in(3);
+    scene_spn = one_in(3) ? scene_old ? PICK(of_2004) : PICK(known) : 0;
     int of_one = scene_spn && one_in(2);   /* all keys of one address, and many with one SPN: what a Parameter Locate asks for */
     scene_keys = few == 0 ? 1 + below(4) : few == 1 ? 12 + below(5) : 17 + below(8);
     for (unsigned i = 0; i < scene_keys; i++) {
@@ -492,6 +508,42 @@ static void judge(struct intended m)
     same(JUDGE, yendrolf_judge(&box, m.source, m.destination, m.k), b);
     unchanged();
     looked_back += b.judgement == 6 && further_back(m, b.position);
+    if (b.number == 0 && plain_edition(&plain, m.source, m.destination, m.k) == 2004)
+        judged_2004[b.judgement]++;
+}
+
+/* The edition of a key. */
+static void edition(struct intended m)
+{
+    snprintf(told_call, sizeof told_call, "edition of %u %u %u", m.source, m.destination, m.k);
+    if (yendrolf_edition(&box, m.source, m.destination, m.k) != plain_edition(&plain, m.source, m.destination, m.k))
+        differ("the edition");
+    calls++;
+    kinds[EDITION]++;
+    unchanged();
+}
+
+/* Sets a key's edition, now and then to a number that is none. "a command changes one held key's edition and nothing else of it": of all words at most one, the key's form, is another, and of
+   that the one bit which says the edition (crates/keyrow/specs/Row.antt). */
+static void set_edition(struct intended m)
+{
+    static const uint32_t none[] = { 0, 1, 2003, 2005, 2007, 2009, 2011, 2004 + 65536, 2010 + 65536, 2004u + 0x80000000u, 0xffffffff };
+    uint32_t said = one_in(8) ? one_in(4) ? any() : PICK(none) : one_in(3) ? 2010 : 2004;
+    snprintf(told_call, sizeof told_call, "set the edition of %u %u %u to %" PRIu32, m.source, m.destination, m.k, said);
+    yendrolf_told a = yendrolf_set_edition(&box, m.source, m.destination, m.k, said);
+    same(SET, a, plain_set_edition(&plain, m.source, m.destination, m.k, said));
+    unsigned others = 0;
+    for (unsigned i = 0; i < YENDROLF_TABLE_WORDS; i++)
+        if (box.table[i] != before.table[i]) {
+            others++;
+            if (i % 67 != 2 || (box.table[i] ^ before.table[i]) != 1024)
+                differ("an edition changed more than its bit");
+        }
+    if (others > (a.number == 0) || memcmp(box.filters, before.filters, sizeof box.filters) != 0)
+        differ("an edition changed more than its key's form");
+    memcpy(&before, &box, sizeof box);
+    edition(m);
+    judge(m);
 }
 
 #define BUFFER (YENDROLF_MOST_BYTES + 40)
@@ -592,6 +644,7 @@ static void pack(struct intended m)
         if (count > most_numbers)
             most_numbers = count;
         count_odd(&m);
+        packed_2004 += plain_edition(&plain, m.source, m.destination, m.k) == 2004;
         read_back(m, one, a.detail, numbers);
     }
 }
@@ -688,6 +741,9 @@ static void hear(const uint8_t *records, unsigned count, uint32_t spn)
     for (yendrolf_key key = yendrolf_first_key(&other); key.held; key = yendrolf_next_key(&other, key.source, key.destination, key.k)) {
         yendrolf_found there = yendrolf_find(&box, key.source, key.destination, key.k, spn);
         yendrolf_parameter heard = yendrolf_parameter_at(&other, key.source, key.destination, key.k, (uint8_t)there.position);
+        located_2004 += yendrolf_edition(&box, key.source, key.destination, key.k) == 2004;
+        if (yendrolf_edition(&other, key.source, key.destination, key.k) != 2010)
+            differ("a message taught an edition");
         if (there.told.number != 0 || heard.told.number != 0 || heard.spn != spn || heard.start != there.start
             || yendrolf_count(&other, key.source, key.destination, key.k) != yendrolf_count(&box, key.source, key.destination, key.k))
             differ("a record that was written teaches another placement");
@@ -807,11 +863,13 @@ static void check_table(void)
             break;
         struct intended m = { (uint8_t)source, (uint8_t)destination, (uint8_t)k, 0, 0, 0, { 0 }, { 0 }, 0 };
         count(m);
+        edition(m);
         judge(m);
         a = yendrolf_next_key(&box, (uint8_t)source, (uint8_t)destination, (uint8_t)k);
         k++;
     }
     for (unsigned i = 0; i < scene_keys; i++) {
+        edition(scene[i]);
         judge(scene[i]);
         find(scene[i]);
         parameter_at(scene[i]);
@@ -946,6 +1004,8 @@ static void save(void)
     unchanged();
     if (a.number == 0)
         saved[two[1]]++;
+    for (unsigned i = 0; a.number == 0 && i < two[1]; i++)
+        saved_2004 += two[2 + 8 * i + 7] == 1;
     if (a.number == 0 && need > longest_image)
         longest_image = need;
     if (a.number == 0 && beyond_the_wire(ANY_ADDRESS))   /* then all but the image is compared */
@@ -954,25 +1014,24 @@ static void save(void)
         differ("the image");
 }
 
+static void same_row(enum call kind, yendrolf_row a, struct plain_row b)
+{
+    same(kind, a.told, b.answer);
+    if (a.source != b.source || a.destination != b.destination || a.k != b.k || a.offset != b.offset || a.length != b.length || a.edition != b.edition)
+        differ("the row");
+}
+
 /* An image asked for a key of the scene, or for a row. */
 static void ask_image(const uint8_t *image, size_t size)
 {
     if (one_in(2)) {
         struct intended m = any_key();
         snprintf(told_call, sizeof told_call, "%zu bytes asked for %u %u %u", size, m.source, m.destination, m.k);
-        yendrolf_row a = yendrolf_image_body(image, size, m.source, m.destination, m.k);
-        struct plain_body b = plain_image_body(image, size, m.source, m.destination, m.k);
-        same(BODY, a.told, b.answer);
-        if (a.offset != b.offset || a.length != b.length)
-            differ("where the body lies");
+        same_row(BODY, yendrolf_image_body(image, size, m.source, m.destination, m.k), plain_image_body(image, size, m.source, m.destination, m.k));
     } else {
         size_t row = one_in(8) ? (size_t)any() << 32 | any() : one_in(4) ? below(18) : below(size > 1 ? image[1] + 1u : 1);
         snprintf(told_call, sizeof told_call, "%zu bytes asked for row %zu", size, row);
-        yendrolf_row a = yendrolf_image_row(image, size, row);
-        struct plain_row b = plain_image_row(image, size, row);
-        same(ROW, a.told, b.answer);
-        if (a.source != b.source || a.destination != b.destination || a.k != b.k || a.offset != b.offset || a.length != b.length)
-            differ("the row");
+        same_row(ROW, yendrolf_image_row(image, size, row), plain_image_row(image, size, row));
     }
     unchanged();
 }
@@ -989,19 +1048,53 @@ static void load_other(const uint8_t *image, size_t size)
     unchanged();
 }
 
+/* The bytes of a row: from form 2 on it has the edition too. */
+static size_t row_size(unsigned form)
+{
+    return form == 1 ? 7 : 8;
+}
+
+/* An image of either form as it is written now: of form 1 each offset is as many bytes further as there are rows, and each row has the edition 2010. */
+static size_t in_form_2(const uint8_t *image, size_t size, uint8_t *out)
+{
+    unsigned count = image[1];
+    if (image[0] == 2) {
+        memcpy(out, image, size);
+        return size;
+    }
+    out[0] = 2;
+    out[1] = (uint8_t)count;
+    for (unsigned i = 0; i < count; i++) {
+        uint8_t *row = out + 2 + 8 * i;
+        memcpy(row, image + 2 + 7 * i, 7);
+        unsigned offset = row[3] + 256u * row[4] + count;
+        row[3] = (uint8_t)offset;
+        row[4] = (uint8_t)(offset >> 8);
+        row[7] = 0;
+    }
+    memcpy(out + 2 + 8 * count, image + 2 + 7 * count, size - 2 - 7 * count);
+    return size + count;
+}
+
 /* Bytes that may be an image: loaded into an empty box, saved again where that went, and asked. */
 static void try_image(const uint8_t *image, size_t size, const char *how, size_t at)
 {
-    static uint8_t again[YENDROLF_IMAGE_BYTES];
+    static uint8_t again[YENDROLF_IMAGE_BYTES], wanted[YENDROLF_IMAGE_BYTES];
+    unsigned form = size > 0 && (image[0] == 1 || image[0] == 2) ? image[0] : 0;
     yendrolf_empty(&other);
     plain_empty(&plain_other);
     memcpy(&other_before, &other, sizeof other);
     snprintf(told_call, sizeof told_call, "load %zu bytes, %s at %zu", size, how, at);
     load_other(image, size);
-    if (yendrolf_first_key(&other).held || (size == 2 && image[0] == 1 && image[1] == 0)) {
+    of_form[form]++;
+    if (yendrolf_first_key(&other).held || (size == 2 && form != 0 && image[1] == 0)) {
         still_images++;
-        if (yendrolf_image_size(&other) != size || yendrolf_save(&other, again, sizeof again).number != 0 || memcmp(again, image, size) != 0)
+        undamaged_of_form[form]++;
+        size_t need = in_form_2(image, size, wanted);
+        if (yendrolf_image_size(&other) != need || yendrolf_save(&other, again, sizeof again).number != 0 || memcmp(again, wanted, need) != 0)
             differ("what was loaded is not saved as it was");
+        for (unsigned i = 0; i < wanted[1]; i++)
+            loaded_2004 += wanted[2 + 8 * i + 7] == 1;
     }
     ask_image(image, size);
 }
@@ -1030,23 +1123,25 @@ static void must_be_damaged(const uint8_t *image, size_t size)
 static void rework(const uint8_t *image)
 {
     static uint8_t out[IMAGE], bodies[18][200];
-    struct { uint8_t key[3]; size_t length; } parts[18];
-    unsigned count = image[1], gap_before = 99, moved = 99;
+    struct { uint8_t key[3], edition; size_t length; } parts[18];
+    unsigned form = image[0], count = image[1], gap_before = 99, moved = 99;
     int uneven = 0;
-    size_t gap = 0, at = 2 + 7 * (size_t)count;
+    size_t gap = 0, at = 2 + row_size(form) * count;
     for (unsigned i = 0; i < count; i++) {
-        const uint8_t *row = image + 2 + 7 * i;
+        const uint8_t *row = image + 2 + row_size(form) * i;
         memcpy(parts[i].key, row, 3);
         parts[i].length = row[5] + 256u * row[6];
+        parts[i].edition = form == 2 ? row[7] : 0;
         memcpy(bodies[i], image + at, parts[i].length);
         at += parts[i].length;
     }
-    unsigned what = below(10), i = count ? below(count) : 0, j = count ? below(count) : 0;
+    unsigned what = below(12), i = count ? below(count) : 0, j = count ? below(count) : 0;
     if (what == 0 || count == 0) {   /* a key more: a row too many, or one that does not rise, or an image */
         static const uint8_t bodies_of_one[5][5] = { { 0xed, 0x05, 0x01, 0x81, 0x01 }, { 0xed, 0x05, 0x01, 0xc1, 0xfa }, { 0xed, 0x05, 0x01, 0xc1, 0xfb },
             { 0x4b, 0x0c, 0x01, 0x81, 0x11 }, { 0x4b, 0x0c, 0x01, 0x81, 0x12 } };   /* the last two of 19 bits, from bit 16 and from 17 on */
         memcpy(bodies[count], PICK(bodies_of_one), 5);
         parts[count].length = 5;
+        parts[count].edition = (uint8_t)below(2);   /* 2004 has the SPN of the last two, and not that of the others */
         parts[count].key[0] = one_in(4) ? (uint8_t)any() : 253;
         parts[count].key[1] = one_in(4) ? (uint8_t)any() : 255;
         parts[count++].key[2] = one_in(4) ? (uint8_t)any() : 15;
@@ -1058,11 +1153,14 @@ static void rework(const uint8_t *image)
         if (what == 2) {
             uint8_t body[200];
             size_t length = parts[i].length;
+            uint8_t edition = parts[i].edition;
             memcpy(body, bodies[i], sizeof body);
             memcpy(bodies[i], bodies[j], sizeof body);
             memcpy(bodies[j], body, sizeof body);
             parts[i].length = parts[j].length;
+            parts[i].edition = parts[j].edition;
             parts[j].length = length;
+            parts[j].edition = edition;
         }
     } else if (what == 3) {   /* the last row left out, or laid twice */
         if (one_in(2)) {
@@ -1084,15 +1182,20 @@ static void rework(const uint8_t *image)
     } else if (what == 9) {   /* an odd width off its multiple of 8 */
         for (i = 0; i < count && !uneven; i++)
             uneven = make_uneven(bodies[i], parts[i].length);
+    } else if (what == 10) {   /* the other edition, or none */
+        parts[i].edition = (uint8_t)(one_in(3) ? any() : parts[i].edition ^ 1);
+    } else if (what == 11) {   /* the rows of one form under the other's number, or of the other form */
+        if (one_in(2))
+            form = 3 - form;
     } else {   /* a byte of all messages of a body: flags and n; or of one: start, position, SPN */
         unsigned byte = what == 7 ? 3 : below(5), turned = 1u << below(8);
         for (size_t p = 0; p < parts[i].length; p += 5)
             if (what == 7 || p == 5 * (size_t)below((unsigned)(parts[i].length / 5)))
                 bodies[i][p + byte] ^= (uint8_t)turned;
     }
-    out[0] = 1;
+    out[0] = (uint8_t)(what == 11 && form == image[0] ? 3 - form : form);
     out[1] = (uint8_t)count;
-    at = 2 + 7 * (size_t)count;
+    at = 2 + row_size(form) * count;
     for (i = 0; i <= count; i++) {
         if (i == gap_before)
             for (; gap > 0; gap--)
@@ -1100,12 +1203,14 @@ static void rework(const uint8_t *image)
         if (i == count)
             break;
         size_t said = i == moved ? at + (one_in(2) ? 5u : 1u << below(16)) : at;
-        uint8_t *row = out + 2 + 7 * i;
+        uint8_t *row = out + 2 + row_size(form) * i;
         memcpy(row, parts[i].key, 3);
         row[3] = (uint8_t)said;
         row[4] = (uint8_t)(said >> 8);
         row[5] = (uint8_t)parts[i].length;
         row[6] = (uint8_t)(parts[i].length >> 8);
+        if (form == 2)
+            row[7] = parts[i].edition;
         memcpy(out + at, bodies[i], parts[i].length);
         at += parts[i].length;
     }
@@ -1129,7 +1234,7 @@ static void load_on_conflict(const uint8_t *image, size_t size)
     load_other(image, size);
 }
 
-/* What a box could save before Req 04: 1519 from bit 0 on, 1517 from 4 on, and the 19 bits of 3147 from 12 on. From 16 on it is an image. */
+/* What a box could save before Req 04, in form 1: 1519 from bit 0 on, 1517 from 4 on, and the 19 bits of 3147 from 12 on. From 16 on it is an image. */
 static void saved_before(void)
 {
     uint8_t image[] = { 1, 1, 38, 40, 15, 9, 0, 15, 0, 0xef, 0x05, 0x01, 0x03, 1, 0xed, 0x05, 0x02, 0x03, 5, 0x4b, 0x0c, 0x03, 0x03, 12 + 1 };
@@ -1141,14 +1246,19 @@ static void saved_before(void)
         differ("an image with 19 bits from bit 16 on is damaged");
 }
 
-/* The image damaged: every bit of a small one turned, of larger ones a bit of each byte or of some; cut at every length, or at some; bytes added. */
+/* The image damaged, in the form that is written or as it was written before Req 10: every bit of a small one turned, of larger ones a bit of each byte or of some; cut at every length, or
+   at some; bytes added. */
 static void damage(void)
 {
     static uint8_t image[IMAGE + 70000];
     if (beyond_the_wire(ANY_ADDRESS))
         return;
-    size_t size = plain_image_size(&plain), step = 1 + size / 300;
-    plain_save(&plain, image, size);
+    size_t size = plain_image_size(&plain);
+    if (one_in(2))
+        size = plain_save_form_1(&plain, image);
+    else
+        plain_save(&plain, image, size);
+    size_t step = 1 + size / 300;
     try_image(image, size, "whole", 0);
     load_on_conflict(image, size);
     saved_before();
@@ -1179,7 +1289,10 @@ static void load_here(void)
     static size_t kept_size;
     if (!beyond_the_wire(ANY_ADDRESS) && (kept_size == 0 || one_in(3))) {
         kept_size = plain_image_size(&plain);
-        plain_save(&plain, kept, kept_size);
+        if (one_in(4))
+            kept_size = plain_save_form_1(&plain, kept);
+        else
+            plain_save(&plain, kept, kept_size);
     }
     memcpy(image, kept, kept_size);
     if (kept_size && one_in(3))
@@ -1207,6 +1320,8 @@ static void same_of_both(uint8_t source, uint8_t destination, uint8_t k, const u
     snprintf(told_call, sizeof told_call, "%u %u %u, asked of a box and of the one that loaded its image", source, destination, k);
     if (n == 0 || n != yendrolf_count(&other, source, destination, k) || length != 5 * n)
         differ("the number of parameters");
+    if (yendrolf_edition(&box, source, destination, k) != yendrolf_edition(&other, source, destination, k))
+        differ("the edition");
     if (!same_told(yendrolf_judge(&box, source, destination, k), yendrolf_judge(&other, source, destination, k)))
         differ("the judgement");
     for (unsigned p = 0; p <= n + 1; p++) {
@@ -1778,9 +1893,10 @@ static void lay_maps(void)
         int conflict = one_in(30), gap = one_in(12) ? (int)(1 + below(m->n)) : 0;
         if (gap && m->n == 1)
             gap = 0;
+        int old = scene_old && !one_in(3);
         row[0] = conflict ? 2 : 1;
         row[1] = (uint64_t)m->source * 65536 + (uint64_t)m->destination * 256 + m->k;
-        row[2] = m->n + 256 * m->proprietary + 512 * m->transport;
+        row[2] = m->n + 256 * m->proprietary + 512 * m->transport + (old ? 1024 : 0);
         for (unsigned p = 1; p <= m->n; p++) {
             if ((int)p == gap)
                 continue;
@@ -1796,6 +1912,8 @@ static void lay_maps(void)
             struct plain_message one = { m->source, m->destination, m->k, m->n, m->proprietary, !m->transport, 1, m->spn[1], m->start[1] };
             plain_learn_message(&plain, one);
         }
+        if (old)
+            plain_set_edition(&plain, m->source, m->destination, m->k, 2004);
     }
 }
 
@@ -1810,7 +1928,7 @@ static void set_many(void)
 {
     static const uint8_t sources[] = { 0, 38, 253 };
     uint8_t source = PICK(sources);
-    scene_spn = PICK(known);
+    scene_spn = scene_old ? PICK(of_2004) : PICK(known);
     scene_keys = one_in(2) ? 16 : 1 + below(16);
     for (unsigned i = 0; i < scene_keys; i++) {
         struct intended *m = &scene[i];
@@ -1820,7 +1938,7 @@ static void set_many(void)
         m->n = 1 + below(2);
         unsigned p = 1 + below(m->n);
         do
-            m->spn[3 - p] = PICK(known);
+            m->spn[3 - p] = scene_old ? PICK(of_2004) : PICK(known);
         while (m->spn[3 - p] == scene_spn);
         m->spn[p] = scene_spn;
         m->start[1] = even_for(m->spn[1], below(40));
@@ -1880,6 +1998,8 @@ static void one_call(void)
         learn(any_frame());
     else if (what < 370 && !laid)
         teach(&scene[below(scene_keys)]);
+    else if (what < 370)
+        set_edition(any_key());
     else if (what < 395)
         forget(any_key());
     else if (what < 440)
@@ -1916,8 +2036,12 @@ static void one_call(void)
         load_here();
     else if (what < 959)
         swap();
-    else if (what < 965)
+    else if (what < 963)
         carry(any_key());
+    else if (what < (scene_old ? 979u : 967u))
+        set_edition(any_key());
+    else if (what < 984)
+        edition(any_key());
     else
         command(DECIDE);
 }
@@ -1945,6 +2069,9 @@ static void play_scene(uint64_t until)
         for (unsigned i = 0; i < scene_keys; i++)
             teach(&scene[i]);
     memcpy(&before, &box, sizeof box);
+    for (unsigned i = 0; scene_old && i < scene_keys; i++)
+        if (one_in(2))
+            set_edition(scene[i]);
     for (unsigned i = 0; many && i < 20; i++)
         locate(any_key());
     for (unsigned i = 0; (many || wide) && i < 4; i++)
@@ -1998,6 +2125,12 @@ static void print_counts(void)
         printf(" %" PRIu64, saved[i]);
     printf("\nlongest image %" PRIu64 " bytes; images damaged by a bit %" PRIu64 ", cut %" PRIu64 ", with bytes added %" PRIu64 ", changed in their parts %"
         PRIu64 ", of these and the whole ones still an image %" PRIu64 "; boxes swapped %" PRIu64, longest_image, turned_bits, cuts, longer_images, reworked, still_images, swaps);
+    printf("\nimages tried: of form 1 %" PRIu64 ", undamaged %" PRIu64 "; of form 2 %" PRIu64 ", undamaged %" PRIu64 "; of no form %" PRIu64, of_form[1], undamaged_of_form[1], of_form[2],
+        undamaged_of_form[2], of_form[0]);
+    printf("\nkeys of the edition of 2004: judged, by judgement");
+    for (unsigned j = 0; j <= 9; j++)
+        printf(" %" PRIu64, judged_2004[j]);
+    printf("; payloads packed %" PRIu64 ", records of a locate %" PRIu64 ", rows saved %" PRIu64 ", rows loaded %" PRIu64, packed_2004, located_2004, saved_2004, loaded_2004);
     printf("\nodd widths: numbers packed %" PRIu64 ", others packed into the bits that these skip %" PRIu64 "; judgements 6 that the position before does not earn %" PRIu64
         "; images damaged by an uneven start %" PRIu64, odd_packed, in_skipped, looked_back, uneven_images);
     printf("\nparameters that the dictionary has not %" PRIu64 "\n", unknown_told);

@@ -63,21 +63,34 @@ static unsigned frame_refused(uint32_t identifier, unsigned length, uint32_t pgn
     return length != 8 ? 3 : 0;
 }
 
-/* ---- the dictionary: tests/spns.txt, made from 002 by tests/spns.py */
+/* ---- the dictionaries of Req 10: tests/spns.txt, made from 002 by tests/spns.py, and tests/spns2004.txt, made from 000 by tests/spns2004.py */
 
-static const struct {
+struct entry {
     uint32_t spn;
     unsigned width;
-} dictionary[] = {
+};
+
+static const struct entry dictionary_2010[] = {
 #include "spns.inc"
 };
 
+static const struct entry dictionary_2004[] = {
+#include "spns2004.inc"
+};
+
+unsigned plain_width_by(unsigned edition, uint32_t spn)
+{
+    const struct entry *rows = edition == 2004 ? dictionary_2004 : dictionary_2010;
+    size_t count = edition == 2004 ? sizeof dictionary_2004 / sizeof rows[0] : sizeof dictionary_2010 / sizeof rows[0];
+    for (size_t i = 0; i < count; i++)
+        if (rows[i].spn == spn)
+            return rows[i].width;
+    return 0;
+}
+
 unsigned plain_width(uint32_t spn)
 {
-    for (size_t i = 0; i < sizeof dictionary / sizeof dictionary[0]; i++)
-        if (dictionary[i].spn == spn)
-            return dictionary[i].width;
-    return 0;
+    return plain_width_by(2010, spn);
 }
 
 /* ---- Req 05: what a number means. tests/units.txt is made from 002 by tests/resolutions.py */
@@ -227,6 +240,7 @@ struct plain_answer plain_learn_message(struct plain_box *box, struct plain_mess
         if (box->held == 16)
             return answer(9, 0);
         i = box->held++;
+        box->sets[i].edition = 2010;   /* "A fresh key has 2010" */
     }
     put_into(&box->sets[i], m);
     return answer(in_conflict(&box->sets[i]) ? 10 : 0, 0);
@@ -281,6 +295,26 @@ struct plain_answer plain_forget(struct plain_box *box, unsigned source, unsigne
     return answer(0, 0);
 }
 
+/* ---- Req 10: "Two editions of the dictionary" */
+
+/* "a command changes one held key's edition and nothing else of it", "11, then 27 for another edition" */
+struct plain_answer plain_set_edition(struct plain_box *box, unsigned source, unsigned destination, unsigned k, uint32_t edition)
+{
+    unsigned i = set_of(box, source, destination, k);
+    if (i == 16)
+        return answer(11, 0);
+    if (edition != 2004 && edition != 2010)
+        return answer(27, 0);
+    box->sets[i].edition = edition;
+    return answer(0, 0);
+}
+
+unsigned plain_edition(const struct plain_box *box, unsigned source, unsigned destination, unsigned k)
+{
+    unsigned i = set_of(box, source, destination, k);
+    return i == 16 ? 2010 : box->sets[i].edition;
+}
+
 /* ---- "Payload bits": where the bits of a number stand */
 
 /* Req 04: "a width above 8 that isn't a multiple of 8" */
@@ -311,7 +345,7 @@ static unsigned place_of_bit(unsigned start, unsigned width, unsigned i)
 
 /* ---- "A set and its judgement" */
 
-/* A map, by position from 1: of a set without a contradiction. */
+/* A map, by position from 1: of a set without a contradiction, its widths by the key's edition. */
 struct map {
     unsigned n, transport;
     unsigned there[65];
@@ -329,7 +363,7 @@ static struct map map_of(const struct plain_set *set)
         map.there[m->position] = 1;
         map.spn[m->position] = m->spn;
         map.start[m->position] = m->start;
-        map.width[m->position] = plain_width(m->spn);
+        map.width[m->position] = plain_width_by(set->edition, m->spn);
     }
     return map;
 }
@@ -555,7 +589,7 @@ struct plain_parameter plain_parameter_at(const struct plain_box *box, unsigned 
             parameter.answer = answer(0, 0);
             parameter.spn = set->messages[j].spn;
             parameter.start = set->messages[j].start;
-            parameter.width = plain_width(parameter.spn);
+            parameter.width = plain_width_by(set->edition, parameter.spn);
         }
     }
     return parameter;
@@ -676,14 +710,25 @@ static unsigned saved_count(const struct plain_box *box)
     return count;
 }
 
-size_t plain_image_size(const struct plain_box *box)
+/* The bytes of a row: in form 1 key, offset and length; in form 2 (Req 10) the edition behind them. */
+static unsigned row_bytes(unsigned form)
+{
+    return form == 1 ? 7 : 8;
+}
+
+static size_t size_in_form(const struct plain_box *box, unsigned form)
 {
     size_t size = 2;
     unsigned source = 0, destination = 0, k = 0;
     const struct plain_set *set;
     for (; (set = next_saved(box, &source, &destination, &k)); k++)
-        size += 7 + 5 * set->messages[0].n;
+        size += row_bytes(form) + 5 * set->messages[0].n;
     return size;
+}
+
+size_t plain_image_size(const struct plain_box *box)
+{
+    return size_in_form(box, 2);
 }
 
 /* Two bytes, "least significant byte first" as all of 01's numbers. */
@@ -710,13 +755,13 @@ static void write_body(const struct plain_set *set, uint8_t *body)
             }
 }
 
-/* "a table of contents first .. then the bodies in that order without gaps", into a buffer that is long enough. */
-static void write_image(const struct plain_box *box, uint8_t *image)
+/* "a table of contents first .. then the bodies in that order without gaps", into a buffer that is long enough. Form 2: "Saved images carry the edition in the contents row". */
+static void write_image(const struct plain_box *box, unsigned form, uint8_t *image)
 {
     unsigned count = saved_count(box), source = 0, destination = 0, k = 0;
     const struct plain_set *set;
-    size_t row = 2, at = 2 + 7 * count;
-    image[0] = 1;
+    size_t row = 2, at = 2 + row_bytes(form) * count;
+    image[0] = (uint8_t)form;
     image[1] = (uint8_t)count;
     for (; (set = next_saved(box, &source, &destination, &k)); k++) {
         size_t length = 5 * set->messages[0].n;
@@ -725,8 +770,10 @@ static void write_image(const struct plain_box *box, uint8_t *image)
         image[row + 2] = (uint8_t)k;
         put_two(image + row + 3, at);
         put_two(image + row + 5, length);
+        if (form == 2)
+            image[row + 7] = set->edition == 2004;
         write_body(set, image + at);
-        row += 7;
+        row += row_bytes(form);
         at += length;
     }
 }
@@ -735,18 +782,30 @@ struct plain_answer plain_save(const struct plain_box *box, uint8_t *image, size
 {
     if (size < plain_image_size(box))
         return answer(13, 0);
-    write_image(box, image);
+    write_image(box, 2, image);
     return answer(0, 0);
 }
 
-/* Learns the messages that an image stands for: of each row's key, five bytes after five, at the row's offset and for its length. 0 where a row says what no row can: more than
-   16 of them, a body that is not inside, or one of more than the 31 positions that a message can count. */
+size_t plain_save_form_1(const struct plain_box *box, uint8_t *image)
+{
+    write_image(box, 1, image);
+    return size_in_form(box, 1);
+}
+
+/* Learns the messages that an image stands for: of each row's key, five bytes after five, at the row's offset and for its length; then "loading sets" the row's edition, and "old
+   ones .. are read as 2010". 0 where the form is none, or a row says what no row can: more than 16 of them, a body that is not inside, one of more than the 31 positions that a
+   message can count, or no edition. */
 static int hear_image(struct plain_box *box, const uint8_t *image, size_t size)
 {
-    if (size < 2 || image[1] > 16 || size < 2 + 7 * (size_t)image[1])
+    if (size < 2 || (image[0] != 1 && image[0] != 2) || image[1] > 16)
         return 0;
-    for (const uint8_t *row = image + 2; row < image + 2 + 7 * image[1]; row += 7) {
+    size_t step = row_bytes(image[0]), contents = step * image[1];
+    if (size < 2 + contents)
+        return 0;
+    for (const uint8_t *row = image + 2; row < image + 2 + contents; row += step) {
         unsigned offset = get_two(row + 3), length = get_two(row + 5);
+        if (image[0] == 2 && row[7] > 1)
+            return 0;
         if (offset + length > size || length > 5 * 31)
             return 0;
         for (unsigned at = offset; at + 5 <= offset + length; at += 5) {
@@ -755,19 +814,20 @@ static int hear_image(struct plain_box *box, const uint8_t *image, size_t size)
             memcpy(data + 3, image + at, 5);
             plain_learn(box, ((6 * 1024 + 176) * 256 + row[1]) * 256 + row[0], 8, data);
         }
+        plain_set_edition(box, row[0], row[1], row[2], image[0] == 2 && row[7] == 1 ? 2004 : 2010);
     }
     return 1;
 }
 
-/* "one table has one image, and any other bytes are damaged": an empty box that learned what these stand for must have these as its image. */
+/* "one table has one image, and any other bytes are damaged": an empty box that learned what these stand for must have these as its image, in their form. */
 static int damaged(const uint8_t *image, size_t size)
 {
     static struct plain_box heard;
-    static uint8_t again[2 + 16 * (7 + 5 * 64)];
+    static uint8_t again[2 + 16 * (8 + 5 * 64)];
     plain_empty(&heard);
-    if (!hear_image(&heard, image, size) || plain_image_size(&heard) != size)
+    if (!hear_image(&heard, image, size) || size_in_form(&heard, image[0]) != size)
         return 1;
-    write_image(&heard, again);
+    write_image(&heard, image[0], again);
     return memcmp(again, image, size) != 0;
 }
 
@@ -781,36 +841,47 @@ struct plain_answer plain_load(struct plain_box *box, const uint8_t *image, size
     return answer(0, 0);
 }
 
-/* "21 damaged image, 22 key or row not in it" */
-struct plain_row plain_image_row(const uint8_t *image, size_t size, size_t row)
+/* What a row of an image says; answer 22 and nothing else where there is none. */
+static struct plain_row row_at(const uint8_t *image, size_t row)
 {
     struct plain_row got;
     memset(&got, 0, sizeof got);
-    got.answer = damaged(image, size) ? answer(21, 0) : row >= image[1] ? answer(22, 0) : answer(0, 0);
-    if (got.answer.number == 0) {
-        const uint8_t *at = image + 2 + 7 * row;
+    got.answer = answer(22, 0);
+    if (row < image[1]) {
+        const uint8_t *at = image + 2 + row_bytes(image[0]) * row;
+        got.answer = answer(0, 0);
         got.source = at[0];
         got.destination = at[1];
         got.k = at[2];
         got.offset = get_two(at + 3);
         got.length = get_two(at + 5);
+        got.edition = image[0] == 2 && at[7] == 1 ? 2004 : 2010;
     }
     return got;
 }
 
-struct plain_body plain_image_body(const uint8_t *image, size_t size, unsigned source, unsigned destination, unsigned k)
+static struct plain_row no_row(void)
 {
-    struct plain_body got;
-    memset(&got, 0, sizeof got);
-    got.answer = damaged(image, size) ? answer(21, 0) : answer(22, 0);
-    for (unsigned row = 0; got.answer.number == 22 && row < image[1]; row++) {
-        const uint8_t *at = image + 2 + 7 * row;
-        if (at[0] == source && at[1] == destination && at[2] == k) {
-            got.answer = answer(0, 0);
-            got.offset = get_two(at + 3);
-            got.length = get_two(at + 5);
-        }
-    }
+    struct plain_row none;
+    memset(&none, 0, sizeof none);
+    none.answer = answer(21, 0);
+    return none;
+}
+
+/* "21 damaged image, 22 key or row not in it" */
+struct plain_row plain_image_row(const uint8_t *image, size_t size, size_t row)
+{
+    return damaged(image, size) ? no_row() : row_at(image, row);
+}
+
+struct plain_row plain_image_body(const uint8_t *image, size_t size, unsigned source, unsigned destination, unsigned k)
+{
+    if (damaged(image, size))
+        return no_row();
+    size_t row = 0;
+    struct plain_row got = row_at(image, row);
+    while (got.answer.number == 0 && !(got.source == source && got.destination == destination && got.k == k))
+        got = row_at(image, ++row);
     return got;
 }
 

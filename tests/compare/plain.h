@@ -46,19 +46,13 @@ struct plain_scaled {
     unsigned state;
 };
 
-/* Req 01, where a key's body lies in an image: both 0 on a refusal. */
-struct plain_body {
-    struct plain_answer answer;
-    unsigned offset;
-    unsigned length;
-};
-
-/* Req 01, a row of an image: all 0 on a refusal. */
+/* Req 01, a row of an image, with the edition that Req 10 gives it: all 0 on a refusal. */
 struct plain_row {
     struct plain_answer answer;
     unsigned source, destination, k;
     unsigned offset;
     unsigned length;
+    unsigned edition;
 };
 
 /* Req 14, a session: the pair that it is of, what its request to send said, and the bytes that came so far. */
@@ -88,11 +82,12 @@ struct plain_message {
     unsigned position, spn, start;
 };
 
-/* "A key's set is the collection of different well-formed messages naming it since its last forget." */
+/* "A key's set is the collection of different well-formed messages naming it since its last forget." Beside it "the edition last set since then" (Req 10). */
 struct plain_set {
     struct plain_message *messages;
     size_t count;
     size_t room;
+    unsigned edition;
 };
 
 /* "Each has a mode and a list of up to 32 PGNs of its own." */
@@ -126,17 +121,24 @@ struct plain_found plain_find(const struct plain_box *box, unsigned source, unsi
 /* The parameter at a position of a key's map, usable or not: 11, then 18 where nothing stands there (so at each position of a key in conflict), else 0. */
 struct plain_parameter plain_parameter_at(const struct plain_box *box, unsigned source, unsigned destination, unsigned k, unsigned position);
 
+/* Req 10: sets the edition of a key (11, 27, or 0); the one that it has, 2010 where the key is not held. */
+struct plain_answer plain_set_edition(struct plain_box *box, unsigned source, unsigned destination, unsigned k, uint32_t edition);
+unsigned plain_edition(const struct plain_box *box, unsigned source, unsigned destination, unsigned k);
+
 /* Req 03: answers a Parameter Locate as `own`, with records laid into `log`, which has `size` bytes, from byte `start` on. 1, 2, 3, 24, 13, or 0 with the count. */
 struct plain_answer plain_locate(const struct plain_box *box, unsigned own, uint32_t identifier, unsigned length, const uint8_t data[8], uint8_t *log, size_t size,
     size_t start);
 
-/* Req 01: how many bytes the image of a box has; the image written over the start of `image`, which has `size` bytes (13, or 0); an image of `size` bytes loaded (21, 23, or 0);
-   asked for a key, and for a row from 0 on (21, 22, or 0). docs/IMAGE.md has the form. */
+/* Req 01: how many bytes the image of a box has; the image written over the start of `image`, which has `size` bytes (13, or 0); an image of `size` bytes, of either form, loaded (21,
+   23, or 0); asked for a key, and for a row from 0 on (21, 22, or 0). docs/IMAGE.md has the forms. */
 size_t plain_image_size(const struct plain_box *box);
 struct plain_answer plain_save(const struct plain_box *box, uint8_t *image, size_t size);
 struct plain_answer plain_load(struct plain_box *box, const uint8_t *image, size_t size);
-struct plain_body plain_image_body(const uint8_t *image, size_t size, unsigned source, unsigned destination, unsigned k);
+struct plain_row plain_image_body(const uint8_t *image, size_t size, unsigned source, unsigned destination, unsigned k);
 struct plain_row plain_image_row(const uint8_t *image, size_t size, size_t row);
+
+/* The image of a box in the form that was written before Req 10, which "no longer" is: how many bytes it has, all of them into `image`. */
+size_t plain_save_form_1(const struct plain_box *box, uint8_t *image);
 
 /* Req 14: no session yet; a frame that may be a request to send (1, 2, 3, 24, 31, 30, or 0); one that may be a packet (1, 2, 3, 28, 29, or 0). The last packet's answer carries the size, and its
    payload is laid over the start of `payload`. */
@@ -158,8 +160,9 @@ struct plain_answer plain_decide(const struct plain_box *box, unsigned from, uns
 /* The listing of a log: its text into `text`, which has room for `room` bytes; the number of bytes, or 0 where they have no room. */
 size_t plain_listing(const uint8_t *log, size_t size, char *text, size_t room);
 
-/* The width of an SPN's parameter, 0 where the dictionary has it not. */
+/* The width of an SPN's parameter, 0 where the dictionary of 2010 has it not; the same by an edition. */
 unsigned plain_width(uint32_t spn);
+unsigned plain_width_by(unsigned edition, uint32_t spn);
 
 /* Req 04: whether a width is odd, above 8 and no multiple of 8; and the payload bit after the last one of a parameter, of an odd width the end of its last byte. */
 int plain_odd(unsigned width);

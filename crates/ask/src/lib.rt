@@ -1,4 +1,4 @@
-// Every question about a key: judging its map, packing and reading its payloads, finding an SPN in it (01, "Answer numbers"). The learned table is
+// Every question about a key: judging its map by its edition, packing and reading its payloads, finding an SPN in it (01, "Answer numbers"; 02, Req 10). The learned table is
 // lent as words; whatever they hold, each call has its defined answer, and none changes them. A call opens its key's map once (crate open).
 ghost use mathlib.Core.Path.{_≡_};
 ghost use Prim.Native.Nat.{_≤_};
@@ -6,10 +6,9 @@ ghost use lib.Dec.{eqb};
 ghost use lib.ListN.{length, getD};
 ghost use Rattle.answers.specs.Answers.{inNumbers, outcome};
 ghost use Rattle.words.specs.First.{lowest};
-ghost use Rattle.dictionary.specs.Dictionary.{widthOf};
 ghost use Rattle.judge.specs.Judge.{countOf};
 ghost use Rattle.keyrow.specs.Row.{rowWords, positions, keyOf};
-ghost use Rattle.open.specs.Open.{judgedBy};
+ghost use Rattle.open.specs.Open.{widthFor, judgedBy};
 ghost use Rattle.ask.specs.Ask.{packedBy, reads, readBy, foundIn, notFound, foundBy, standingIn, nowhere, standsBy};
 ghost use Rattle.ask.specs.Parts.{readyBy, cellAt, saidBy, readWith};
 use answers::Answer;
@@ -30,7 +29,7 @@ pub struct Found {
     pub width: u32,
 }
 
-// The parameter at a position; all 0 on a refusal, and the width 0 where the dictionary does not have the SPN.
+// The parameter at a position; all 0 on a refusal, and the width 0 where the dictionary of the key's edition does not have the SPN.
 pub struct Parameter {
     pub answer: Answer,
     pub spn: u32,
@@ -158,7 +157,7 @@ pub fn count(t: &[u64; WORDS], source: u8, destination: u8, k: u8) -> u8
 
 // Judges a key's map: 11, else 0 with the judgement.
 pub fn judge(t: &[u64; WORDS], source: u8, destination: u8, k: u8) -> Answer
-    ensures { λ r. ⌜ inNumbers r ≡ judgedBy widthOf (mapIn (now (t .entry)) (keyOf source destination k)) ⌝ }
+    ensures { λ r. ⌜ inNumbers r ≡ judgedBy (widthFor (now (t .entry)) (keyOf source destination k)) (mapIn (now (t .entry)) (keyOf source destination k)) ⌝ }
 {
     let mut spns = [0u32; POSITIONS];
     let mut starts = [0u32; POSITIONS];
@@ -186,7 +185,7 @@ pub fn pack(
     out: &mut [u8],
 ) -> Answer
     ensures { λ r. ⌜ outcome (inNumbers r) (now (out .exit))
-        ≡ packedBy widthOf (mapIn (now (t .entry)) (keyOf source destination k)) (now (numbers .entry)) (now (out .entry)) ⌝ }
+        ≡ packedBy (widthFor (now (t .entry)) (keyOf source destination k)) (mapIn (now (t .entry)) (keyOf source destination k)) (now (numbers .entry)) (now (out .entry)) ⌝ }
 {
     let mut spns = [0u32; POSITIONS];
     let mut starts = [0u32; POSITIONS];
@@ -220,7 +219,7 @@ pub fn read(
     states: &mut [u8],
 ) -> Answer
     ensures { λ r. ⌜ reads (inNumbers r) (now (room .exit)) (now (states .exit))
-        ≡ readBy widthOf (mapIn (now (t .entry)) (keyOf source destination k)) (now (payload .entry)) (now (room .entry)) (now (states .entry)) ⌝ }
+        ≡ readBy (widthFor (now (t .entry)) (keyOf source destination k)) (mapIn (now (t .entry)) (keyOf source destination k)) (now (payload .entry)) (now (room .entry)) (now (states .entry)) ⌝ }
 {
     let mut spns = [0u32; POSITIONS];
     let mut starts = [0u32; POSITIONS];
@@ -244,7 +243,7 @@ pub fn read(
 
 // Finds an SPN in a key's map: 11, 12, 18, else 0 with position, start and width.
 pub fn find(t: &[u64; WORDS], source: u8, destination: u8, k: u8, spn: u32) -> Found
-    ensures { λ r. ⌜ foundIn r ≡ foundBy widthOf (mapIn (now (t .entry)) (keyOf source destination k)) spn ⌝ }
+    ensures { λ r. ⌜ foundIn r ≡ foundBy (widthFor (now (t .entry)) (keyOf source destination k)) (mapIn (now (t .entry)) (keyOf source destination k)) spn ⌝ }
 {
     let mut spns = [0u32; POSITIONS];
     let mut starts = [0u32; POSITIONS];
@@ -277,7 +276,7 @@ pub fn find(t: &[u64; WORDS], source: u8, destination: u8, k: u8, spn: u32) -> F
 
 // The parameter at a position of a key's map, usable or not: 11, 18 where nothing stands there, else 0 with SPN, start and width.
 pub fn parameter_at(t: &[u64; WORDS], source: u8, destination: u8, k: u8, position: u8) -> Parameter
-    ensures { λ r. ⌜ standingIn r ≡ standsBy widthOf (mapIn (now (t .entry)) (keyOf source destination k)) position ⌝ }
+    ensures { λ r. ⌜ standingIn r ≡ standsBy (widthFor (now (t .entry)) (keyOf source destination k)) (mapIn (now (t .entry)) (keyOf source destination k)) position ⌝ }
 {
     let row = lookup::row_of(t, source, destination, k);
     if row.len() == 0 {
@@ -289,7 +288,7 @@ pub fn parameter_at(t: &[u64; WORDS], source: u8, destination: u8, k: u8, positi
     }
     let spn = keyrow::spn_of(cell);
     let start = keyrow::start_of(cell);
-    let width = dictionary::width_of(spn);
+    let width = dictionary::width_of(keyrow::edition_of(row[FORM]), spn);
     let answer = answers::plainly(0);
     Parameter {
         answer,

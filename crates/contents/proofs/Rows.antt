@@ -2,7 +2,7 @@
 use Prim.Native.Nat.{ℕ, _+_, _*_, _-_, _≤_, _<_}
 use native.Mathlib.Omega.{arith}
 use mathlib.Core.Path.{_≡_, refl, sym, ap, _∙_}
-use mathlib.Core.Bool.{true, false, _&&_}
+use mathlib.Core.Bool.{true, false, cond, _&&_}
 use mathlib.Core.List.{List, [], _∷_}
 use borrow.Author.Tests.{lt-ltb, le-ltb, le-leb, lt-leb, leb-true, leb-false}
 use lib.Dec.{eqb, ltb, leb}
@@ -13,9 +13,8 @@ use Rattle.answers.specs.Answers.{Said, plain}
 use Rattle.message.specs.declared.Key.{Key}
 use Rattle.maps.specs.Maps.{sameKey}
 use Rattle.keyrow.specs.Row.{keyOf}
-use Rattle.image.specs.Write.{behind}
-use Rattle.image.specs.Read.{keyAt, rowCount, good}
-use Rattle.image.specs.Part.{offAt, lenAt, rowAsked, hasRow, rowKey, rowBody, rowOffset, rowNext, rowEntry}
+use Rattle.image.specs.Read.{keyAt, rowCount, formOf, editionAt, good}
+use Rattle.image.specs.Part.{rowPlace, offAt, lenAt, rowAsked, hasRow, rowKey, rowEdition, rowBody, rowOffset, rowNext, rowEntry}
 use Rattle.image.proofs.Part.{row-inside}
 use Rattle.contents.specs.Rows.{noEntry}
 
@@ -33,17 +32,21 @@ module _ (l : List ℕ) (i : ℕ) where
   asked-0 a e g h = rw (e, g, lt-leb (rowCount l) i h)
 
   module _ (h : hasRow l i ≡ true) where
-    pub key-there : keyAt l (behind i) ≡ rowKey l i
+    pub key-there : keyAt l (rowPlace l i) ≡ rowKey l i
     unfolding rowKey
     key-there = rw h
 
-    pub body-there : take (lenAt l (behind i)) (drop (offAt l (behind i)) l) ≡ rowBody l i
+    pub body-there : take (lenAt l (rowPlace l i)) (drop (offAt l (rowPlace l i)) l) ≡ rowBody l i
     unfolding rowBody
     body-there = rw h
 
-    pub off-there : offAt l (behind i) ≡ rowOffset l i
+    pub off-there : offAt l (rowPlace l i) ≡ rowOffset l i
     unfolding rowOffset
     off-there = rw h
+
+    pub edition-there : cond (eqb (formOf l) 1) 2010 (editionAt l (rowPlace l i)) ≡ rowEdition l i
+    unfolding rowEdition
+    edition-there = rw h
 
     pub next-there : i + 1 ≡ rowNext l i
     unfolding rowNext
@@ -61,6 +64,10 @@ module _ (l : List ℕ) (i : ℕ) where
     pub off-not : 0 ≡ rowOffset l i
     unfolding rowOffset
     off-not = rw h
+
+    pub edition-not : 0 ≡ rowEdition l i
+    unfolding rowEdition
+    edition-not = rw h
 
     pub next-not : i ≡ rowNext l i
     unfolding rowNext
@@ -86,15 +93,16 @@ module _ (l : List ℕ) (i : ℕ) where
       (λ g. rw g)
 
   -- how long the body of a row is that is there
-  size-there : hasRow l i ≡ true → lenAt l (behind i) ≡ length (rowBody l i)
+  size-there : hasRow l i ≡ true → lenAt l (rowPlace l i) ≡ length (rowBody l i)
   size-there h = sym (ap length (sym (body-there l i h)) ∙ simp (length-take, length-drop) (omega (arith, row-inside l i h .1)))
 
-  pub entry-there : (a : Said) (k : Key) (from size : ℕ) → a ≡ rowAsked l i → hasRow l i ≡ true → k ≡ keyAt l (behind i) → from ≡ offAt l (behind i) → size ≡ lenAt l (behind i)
-      → record { answer = a; key = k; offset = from; size = size } ≡ rowEntry l i
-  entry-there a k from size e h f g s = λ j. record { answer = e j; key = (f ∙ key-there l i h) j; offset = (g ∙ off-there l i h) j; size = (s ∙ size-there h) j }
+  pub entry-there : (a : Said) (k : Key) (from size edition : ℕ) → a ≡ rowAsked l i → hasRow l i ≡ true → k ≡ keyAt l (rowPlace l i) → from ≡ offAt l (rowPlace l i) → size ≡ lenAt l (rowPlace l i)
+      → edition ≡ cond (eqb (formOf l) 1) 2010 (editionAt l (rowPlace l i)) → record { answer = a; key = k; offset = from; size = size; edition = edition } ≡ rowEntry l i
+  entry-there a k from size edition e h f g s w =
+      λ j. record { answer = e j; key = (f ∙ key-there l i h) j; offset = (g ∙ off-there l i h) j; size = (s ∙ size-there h) j; edition = (w ∙ edition-there l i h) j }
 
   pub entry-not : (a : Said) → a ≡ rowAsked l i → hasRow l i ≡ false → noEntry a ≡ rowEntry l i
-  entry-not a e n = λ j. record { answer = e j; key = key-not l i n j; offset = off-not l i n j; size = length (part-not l i n j) }
+  entry-not a e n = λ j. record { answer = e j; key = key-not l i n j; offset = off-not l i n j; size = length (part-not l i n j); edition = edition-not l i n j }
 
   -- ---- the body as a part
 

@@ -1,27 +1,29 @@
-// Asking an image (02, Req 01): for a row of its contents by its number, from 0 on, and for a key. A body is handed back as a part of the caller's own image, an empty
+// Asking an image of either form (02, Req 01 and 10): for a row of its contents by its number, from 0 on, and for a key. A body is handed back as a part of the caller's own image, an empty
 // part on a refusal; beside it a plain call gives the number: 21 damaged image, 22 key or row not in it. Any bytes may be asked, and each call checks the whole
 // image.
 ghost use mathlib.Core.Path.{_≡_};
 ghost use Prim.Native.Nat.{_+_, _*_, _≤_, _<_};
+ghost use mathlib.Core.Bool.{cond};
+ghost use lib.Dec.{eqb};
 ghost use lib.ListN.{getD};
 ghost use Rattle.answers.specs.Answers.{inNumbers};
 ghost use Rattle.maps.specs.Maps.{sameKey};
 ghost use Rattle.keyrow.specs.Row.{keyOf};
-ghost use Rattle.image.specs.Read.{keyAt};
+ghost use Rattle.image.specs.Read.{keyAt, editionAt};
 ghost use Rattle.image.specs.Part.{rowAsked, rowKey, rowBody, rowOffset, rowNext, rowEntry, rowWith, PartOf};
 ghost use Rattle.contents.specs.Rows.{entryIn, noEntry};
 use answers::Answer;
+use keyrow::EDITION_2010;
 use load::byte_at;
 use message::Key;
+use save::OLD;
 
-// The first row stands at byte 2, and a row has 7 bytes: source, destination, k, and two numbers of two bytes each.
-const FIRST: usize = 2;
-
-const ROW: usize = 7;
-
+// A row is source, destination and k, two numbers of two bytes each, and in form 2 the byte of its edition.
 const OFFSET: usize = 3;
 
 const LENGTH: usize = 5;
+
+const EDITION: usize = 7;
 
 // Two bytes as a number, the least significant first.
 fn word(s: &[u8], p: usize) -> usize
@@ -36,6 +38,17 @@ fn count(image: &[u8]) -> usize
     ensures { λ r. ⌜ (r ≡ getD (now (image .entry)) 1 0) × (r < 256) ⌝ }
 {
     byte_at(image, 1) as usize
+}
+
+// The edition of the row at byte r: 2010 in form 1.
+fn edition_at(image: &[u8], form: u8, r: usize) -> u32
+    requires { ⌜ r ≤ 65536 ⌝ }
+    ensures { λ e. ⌜ e ≡ cond (eqb form 1) 2010 (editionAt (now (image .entry)) r) ⌝ }
+{
+    if form == OLD {
+        return EDITION_2010;
+    }
+    load::edition_said(byte_at(image, r + EDITION))
 }
 
 // ---- a row by its number
@@ -59,6 +72,7 @@ pub struct Listed {
     pub key: Key,
     pub offset: usize,
     pub size: usize,
+    pub edition: u32,
 }
 
 // A refusal of row.
@@ -74,10 +88,11 @@ fn no_row(answer: Answer) -> Listed
         },
         offset: 0,
         size: 0,
+        edition: 0,
     }
 }
 
-// The row with this number: 21, 22, or 0 with its key, and where its body begins and how long it is.
+// The row with this number: 21, 22, or 0 with its key, where its body begins and how long it is, and its edition.
 pub fn row(image: &[u8], i: usize) -> Listed
     ensures { λ r. ⌜ entryIn r ≡ rowEntry (now (image .entry)) i ⌝ }
 {
@@ -85,7 +100,8 @@ pub fn row(image: &[u8], i: usize) -> Listed
     if answer.number != 0 {
         return no_row(answer);
     }
-    let r = FIRST + ROW * i;
+    let form = load::form_of(image);
+    let r = save::behind(form, i as u8);
     Listed {
         answer,
         key: Key {
@@ -95,6 +111,7 @@ pub fn row(image: &[u8], i: usize) -> Listed
         },
         offset: word(image, r + OFFSET),
         size: word(image, r + LENGTH),
+        edition: edition_at(image, form, r),
     }
 }
 
@@ -142,15 +159,16 @@ fn row_is(image: &[u8], r: usize, source: u8, destination: u8, k: u8) -> bool
 pub fn row_with(image: &[u8], source: u8, destination: u8, k: u8) -> usize
     ensures { λ r. ⌜ r ≡ rowWith (now (image .entry)) (keyOf source destination k) ⌝ }
 {
-    let c = count(image);
+    let form = load::form_of(image);
+    let c = byte_at(image, 1);
     let mut i = 0;
     while i < c {
-        if row_is(image, FIRST + ROW * i, source, destination, k) {
-            return i;
+        if row_is(image, save::behind(form, i), source, destination, k) {
+            return i as usize;
         }
         i += 1;
     }
-    c
+    c as usize
 }
 
 // The body of a key, as a part of the image.
@@ -169,7 +187,7 @@ pub fn asked(image: &[u8], source: u8, destination: u8, k: u8) -> Answer
     row_asked(image, row_with(image, source, destination, k))
 }
 
-// The row of a key: 21, 22, or 0 with where its body begins and how long it is.
+// The row of a key: 21, 22, or 0 with where its body begins and how long it is, and its edition.
 pub fn row_of(image: &[u8], source: u8, destination: u8, k: u8) -> Listed
     ensures { λ r. ⌜ entryIn r ≡ rowEntry (now (image .entry)) (rowWith (now (image .entry)) (keyOf source destination k)) ⌝ }
 {

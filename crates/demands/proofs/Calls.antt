@@ -1,7 +1,7 @@
 -- The words after a run of calls are those of what happened in it, so that every theorem on events is one on calls. Assumes nothing.
 use Prim.Native.Nat.{ℕ, zero, suc, _<_}
 use mathlib.Core.Path.{_≡_, refl, sym, ap, _∙_}
-use mathlib.Core.Bool.{true, false, cond, _&&_}
+use mathlib.Core.Bool.{_&&_}
 use mathlib.Core.List.{List, [], _∷_, _++_}
 use lib.ListN.{getD}
 use Rattle.words.proofs.Tests.{test}
@@ -22,7 +22,7 @@ use Rattle.image.specs.Read.{eventsOf, good, loaded}
 use Rattle.taught.proofs.Histories.{taught-in-words}
 use Rattle.image.proofs.Again.{events-taught}
 use Rattle.image.proofs.Empty.{load-events}
-use Rattle.demands.specs.Calls.{Call, Frame, Forgets, Feeds, Empties, Loads, Reads, wordsAfter, run, framed, recorded, eventsAfter, happened, Carried, AllCarried}
+use Rattle.demands.specs.Calls.{Call, Frame, Forgets, Sets, Feeds, Empties, Loads, Reads, wordsAfter, run, framed, recorded, eventsAfter, happened, Carried, AllCarried}
 
 -- the words are those of the events, whose numbers have their place in them
 abbrev pub Kept : List ℕ → List Event → Type 0
@@ -72,6 +72,7 @@ kept-load t h l b k = (
 called : (t : List ℕ) (h : List Event) (c : Call) → Carried c → Kept t h → Kept (wordsAfter t c) (eventsAfter h c)
 called t h (Frame id len d) b k = kept-frame t h id len d b k
 called t h (Forgets key) b k = (ap (λ (u : List ℕ). wordsAfter u (Forgets key)) (k .0), (record { key = b; row = tt }, k .1))
+called t h (Sets key e) b k = (ap (λ (u : List ℕ). wordsAfter u (Sets key e)) (k .0), (record { key = b; row = tt }, k .1))
 called t h (Feeds s chunk) b k = kept-feed t h s chunk (b .0) (b .1) k
 called t h Empties b k = (refl, tt)
 called t h (Loads l) b k = kept-load t h l b k

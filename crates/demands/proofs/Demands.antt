@@ -1,15 +1,15 @@
 -- THE THREE DEMANDS, over what the calls promise. Each call's promise is one equation for its answer and the memory lent to it with a total definition, on
--- every input: learnt, forgotten, emptyTable, feeding, judgedBy, packedBy, readBy, foundBy, standsBy, finished, locatedBy, commanded, decided. The laws below are
+-- every input: learnt, forgotten, edited, emptyTable, feeding, judgedBy, packedBy, readBy, foundBy, standsBy, finished, locatedBy, commanded, decided. The laws below are
 -- about these definitions, so they hold of the calls. No call on the table is lent the filters and none on the filters the table.
 --
 -- Demand 1: the numbers of each call, what a refusal leaves, what answer 10 changes.
--- Demand 2: when a map is usable; when packing and reading are done; the bits. Of any map, with 002's dictionary.
--- Demand 3: for any run of calls from an empty table (specs/Calls.antt): frames with any identifier, length and bytes, forgets of any key, logs fed in any
--- chunks, emptying, loads of any image, and calls that only read; and for any run of calls on fresh filters. (What 02 asks of images: Saved.antt.)
+-- Demand 2: when a map is usable; when packing and reading are done; the bits. Of any map, with any dictionary: those of the two editions among them.
+-- Demand 3: for any run of calls from an empty table (specs/Calls.antt): frames with any identifier, length and bytes, forgets of any key, editions of any key, logs fed in
+-- any chunks, emptying, loads of any image, and calls that only read; and for any run of calls on fresh filters. (What 02 asks of editions: Edited.antt; of images: Saved.antt.)
 --
 -- Assumes nothing. `Carried` and `InBytes` say only that bytes are bytes, and `length t ≡ tableWords` that a table has its length: what a call's types already say
 -- of its arguments.
-use Prim.Native.Nat.{ℕ, _*_, _≤_, _<_}
+use Prim.Native.Nat.{ℕ, _+_, _*_, _≤_, _<_}
 use mathlib.Core.Path.{_≡_, refl, sym, ap, _∙_}
 use mathlib.Core.Logic.{_⊎_, _↔_, ⊎-elim}
 use mathlib.Core.Bool.{Bool, true, false, cond, _||_}
@@ -26,7 +26,7 @@ use Rattle.message.specs.declared.Key.{Key}
 use Rattle.message.specs.declared.Message.{Message}
 use Rattle.message.proofs.WellFormed.{at-most-eight}
 use Rattle.message.specs.Message.{wireOf, frameTests, dataTests, heard}
-use Rattle.dictionary.specs.Dictionary.{widthOf}
+use Rattle.dictionary.specs.Dictionary.{widthBy}
 use Rattle.bits.specs.Bits.{bit, bitAt}
 use Rattle.places.specs.Place.{bitPlace, assigned}
 use Rattle.payload.specs.Payload.{filled, Fit}
@@ -36,17 +36,22 @@ use Rattle.maps.proofs.Maps.{same-map}
 use Rattle.judge.specs.Judge.{judge, usable, countOf, startsOf, widthsOf, lengthOf}
 use Rattle.judge.specs.Usable.{Usable, ruleList, FirstApplies}
 use Rattle.judge.proofs.Exactly.{usable-exactly, judged-exactly}
-use Rattle.history.specs.History.{mostKeys, Learn, Forget, since, answer, setOf, Few}
+use Rattle.history.specs.History.{mostKeys, Learn, Forget, Edition, since, isEdition, answer, kept, setOf, editionOf, Few}
 use Rattle.history.specs.Frames.{frameAnswer, heardAnswer}
 use Rattle.history.proofs.Same.{same-answer, same-empty}
 use Rattle.keyrow.specs.Row.{rowWords, keyNumber, InBytes}
-use Rattle.lookup.specs.Layout.{tableWords, slotOf}
-use Rattle.lookup.specs.View.{mapIn}
+use Rattle.keyrow.specs.View.{withEdition, editedRow}
+use Rattle.lookup.specs.Layout.{tableWords, rowOf, slotOf}
+use Rattle.lookup.specs.View.{mapIn, editionIn}
 use Rattle.table.specs.Learn.{taught, learnt}
+use Rattle.table.specs.Layout.{putRow}
 use Rattle.table.specs.Forget.{forgotten}
+use Rattle.edition.specs.Edition.{editionTests, edited}
+use Rattle.edition.proofs.Edited as edition
+use Rattle.learned.proofs.Editions.{edition-is}
 use Rattle.learned.proofs.Refusals as refusals
 use Rattle.learned.proofs.Theorem as theorem
-use Rattle.open.specs.Open.{isHeld, judgedBy}
+use Rattle.open.specs.Open.{isHeld, judgedBy, widthFor}
 use Rattle.ask.specs.Ask.{keyTests, packTests, packDone, packedBy, Reading, reads, readTests, readDone, readBy, Finding, notFound, findTests, foundAt, positionOf, foundBy, Standing, nowhere, standing, standsTests, standsBy}
 use Rattle.ask.proofs.Laws.{Unusable, pack-12, read-12, find-12, pack-done, done-packs, read-done, done-reads, pack-refused, read-refused, pack-bit, pack-other, pack-past, read-back, read-states, never-14, pack-back}
 use Rattle.feeding.specs.declared.Tally.{Tally}
@@ -63,6 +68,7 @@ use Rattle.commands.specs.Calls.{PortCall, called, filtersAfter, answerOf, name
 use Rattle.commands.proofs.Refusals.{add-answers, delete-answers, renew-answers, decide-answers, refusal-stays, others-stay}
 use Rattle.commands.proofs.Commands.{answered, isolated, nothing-before}
 use Rattle.demands.specs.Calls.{Call, Frame, run, happened, Carried, AllCarried}
+use Rattle.demands.specs.Known.{Known, knownIn, knownBy}
 use Rattle.demands.proofs.Calls.{run-is}
 
 -- ==== Demand 1: "Any frame, command, log or lent buffer gets an answer from a fixed list .. A refusal leaves every table and every lent buffer as found. A
@@ -96,7 +102,13 @@ pub forget-list : (t : List ℕ) (key : ℕ) → oneOf (forgotten t key .answer 
 unfolding forgotten
 forget-list t key = test (ltb (slotOf t key) mostKeys) (λ y. rw y) (λ n. rw n)
 
-module _ (m : Map) where
+-- an edition: 0, 11 and 27
+pub set-list : (t : List ℕ) (key e : ℕ) → oneOf (edited t key e .answer .number) (0 ∷ 11 ∷ 27 ∷ []) ≡ true
+unfolding edited
+set-list t key e =
+    from-answers (λ (o : Outcome). o .answer .number) (λ a. outcome a t) (λ a. refl) (editionTests t key e) (outcome (plain 0) (putRow t (slotOf t key) (editedRow (rowOf t (slotOf t key)) e)))
+
+module _ (widthOf : ℕ → ℕ) (m : Map) where
   -- judging: 0 and 11
   pub judge-list : oneOf (judgedBy widthOf m .number) (0 ∷ 11 ∷ []) ≡ true
   unfolding judgedBy
@@ -132,8 +144,8 @@ unfolding finished
 finish-list t s out = test (fits out 0 (pageOf t s)) (λ y. rw y) (λ n. rw n)
 
 -- answering a Parameter Locate: 0, 1, 2, 3, 24 and 13
-pub locate-list : (t : List ℕ) (own id len : ℕ) (d log : List ℕ) (start : ℕ) → oneOf (locatedBy widthOf t own id len d log start .answer .number) (0 ∷ 1 ∷ 2 ∷ 3 ∷ 24 ∷ 13 ∷ []) ≡ true
-locate-list = number-list widthOf
+pub locate-list : (t : List ℕ) (own id len : ℕ) (d log : List ℕ) (start : ℕ) → oneOf (locatedBy (widthFor t) t own id len d log start .answer .number) (0 ∷ 1 ∷ 2 ∷ 3 ∷ 24 ∷ 13 ∷ []) ≡ true
+locate-list t = number-list (widthFor t) t
 
 -- the commands to the filters, and deciding
 module _ (w : List ℕ) (long : length w ≡ 408) (from to : ℕ) where
@@ -172,7 +184,15 @@ ten-heard t id len d q e =
 pub forget-leaves : (t : List ℕ) (key : ℕ) → (forgotten t key .answer .number ≡ 0 → ⊥) → forgotten t key .memory ≡ t
 forget-leaves = refusals.eleven-leaves
 
-module _ (m : Map) where
+-- a refused edition leaves every word, and one that is set changes one word of its own key's row, of which one bit (keyrow, Edition.antt)
+pub set-leaves : (t : List ℕ) (key e : ℕ) → (edited t key e .answer .number ≡ 0 → ⊥) → edited t key e .memory ≡ t
+set-leaves = edition.refusal-leaves
+
+pub set-marks : (t : List ℕ) → length t ≡ tableWords → (key e : ℕ)
+    → (edited t key e .memory ≡ t) ⊎ (edited t key e .memory ≡ set t (slotOf t key * rowWords + 2) (withEdition (getD t (slotOf t key * rowWords + 2) 0) e))
+set-marks = edition.one-word
+
+module _ (widthOf : ℕ → ℕ) (m : Map) where
   pub pack-leaves : (numbers out : List ℕ) → (packedBy widthOf m numbers out .answer .number ≡ 0 → ⊥) → packedBy widthOf m numbers out .memory ≡ out
   pack-leaves = pack-refused widthOf m
 
@@ -184,8 +204,8 @@ pub finish-leaves : (t : List ℕ) (s : Tally) (out : List ℕ) → (finished t 
 unfolding finished
 finish-leaves t s out n = test (fits out 0 (pageOf t s)) (λ y. absurd (n (rw y))) (λ f. rw f)
 
-pub locate-leaves : (t : List ℕ) (own id len : ℕ) (d log : List ℕ) (start : ℕ) → (locatedBy widthOf t own id len d log start .answer .number ≡ 0 → ⊥) → locatedBy widthOf t own id len d log start .memory ≡ log
-locate-leaves = refusal-leaves widthOf
+pub locate-leaves : (t : List ℕ) (own id len : ℕ) (d log : List ℕ) (start : ℕ) → (locatedBy (widthFor t) t own id len d log start .answer .number ≡ 0 → ⊥) → locatedBy (widthFor t) t own id len d log start .memory ≡ log
+locate-leaves t = refusal-leaves (widthFor t) t
 
 -- a refused command leaves every word, and a command that is obeyed those of every other pair
 module _ (w : List ℕ) (long : length w ≡ 408) (from to : ℕ) (c : Command) where
@@ -207,7 +227,7 @@ usable-when = usable-exactly
 pub judged-when : (dictionary : ℕ → ℕ) (m : Map) (k p : ℕ) → 1 ≤ k → (judge dictionary m ≡ at k p) ↔ FirstApplies (ruleList dictionary m) k p
 judged-when = judged-exactly
 
-module _ (m : Map) where
+module _ (widthOf : ℕ → ℕ) (m : Map) where
   abbrev starts : List ℕ
   starts = startsOf widthOf m
 
@@ -273,63 +293,85 @@ module _ (m : Map) where
     beside = read-states widthOf m payload room states e;
   }
 
--- ==== Demand 3: "every answer about a key is the one 01 defines from the collection of different well-formed messages naming it since its last forget"
+-- ==== Demand 3: "every answer about a key is the one 01 defines from the collection of different well-formed messages naming it since its last forget", and since Req 10 "the
+-- messages since the last forget and the edition last set since then"
 
--- every answer that a map decides
-pub record Answers (m n : Map) : Type 0 where
-  pub count : countOf m ≡ countOf n
-  pub judge : judgedBy widthOf m ≡ judgedBy widthOf n
-  pub pack : (numbers out : List ℕ) → packedBy widthOf m numbers out ≡ packedBy widthOf n numbers out
-  pub read : (payload room states : List ℕ) → readBy widthOf m payload room states ≡ readBy widthOf n payload room states
-  pub find : (spn : ℕ) → foundBy widthOf m spn ≡ foundBy widthOf n spn
-  pub stands : (p : ℕ) → standsBy widthOf m p ≡ standsBy widthOf n p
+-- every answer that the edition and the map of a key decide
+pub record Answers (a b : Known) : Type 0 where
+  pub edition : a .edition ≡ b .edition
+  pub count : countOf (a .map) ≡ countOf (b .map)
+  pub judge : judgedBy (widthBy (a .edition)) (a .map) ≡ judgedBy (widthBy (b .edition)) (b .map)
+  pub pack : (numbers out : List ℕ) → packedBy (widthBy (a .edition)) (a .map) numbers out ≡ packedBy (widthBy (b .edition)) (b .map) numbers out
+  pub read : (payload room states : List ℕ) → readBy (widthBy (a .edition)) (a .map) payload room states ≡ readBy (widthBy (b .edition)) (b .map) payload room states
+  pub find : (spn : ℕ) → foundBy (widthBy (a .edition)) (a .map) spn ≡ foundBy (widthBy (b .edition)) (b .map) spn
+  pub stands : (p : ℕ) → standsBy (widthBy (a .edition)) (a .map) p ≡ standsBy (widthBy (b .edition)) (b .map) p
 
-pub same-answers : (m n : Map) → m ≡ n → Answers m n
-same-answers m n e = record {
-  count = ap countOf e;
-  judge = ap (judgedBy widthOf) e;
-  pack = λ numbers out. ap (λ (x : Map). packedBy widthOf x numbers out) e;
-  read = λ payload room states. ap (λ (x : Map). readBy widthOf x payload room states) e;
-  find = λ spn. ap (λ (x : Map). foundBy widthOf x spn) e;
-  stands = λ p. ap (λ (x : Map). standsBy widthOf x p) e;
+pub same-answers : (a b : Known) → a ≡ b → Answers a b
+same-answers a b e = record {
+  edition = ap (λ (x : Known). x .edition) e;
+  count = ap (λ (x : Known). countOf (x .map)) e;
+  judge = ap (λ (x : Known). judgedBy (widthBy (x .edition)) (x .map)) e;
+  pack = λ numbers out. ap (λ (x : Known). packedBy (widthBy (x .edition)) (x .map) numbers out) e;
+  read = λ payload room states. ap (λ (x : Known). readBy (widthBy (x .edition)) (x .map) payload room states) e;
+  find = λ spn. ap (λ (x : Known). foundBy (widthBy (x .edition)) (x .map) spn) e;
+  stands = λ p. ap (λ (x : Known). standsBy (widthBy (x .edition)) (x .map) p) e;
 }
 
+-- of two that are alike in both
+alike : {e f : ℕ} {m n : Map} → e ≡ f → m ≡ n → _≡_ {A = Known} (record { edition = e; map = m }) (record { edition = f; map = n })
+alike p q = λ i. record { edition = p i; map = q i }
+
 module _ (calls : List Call) (bytes : AllCarried calls) where
-  -- the table's map of a key after a run is the map of its set
+  -- the table's map of a key after a run is the map of its set, and its edition the one last set
   map-is : (k : Key) → InBytes k → mapIn (run calls) k ≡ mapOf (setOf (happened calls) k)
   map-is k b = let (w, i) = run-is calls bytes in rw w (theorem.map-is (happened calls) i k b)
 
-  -- after any run, of any length and with any number of keys: each answer is the one defined from the key's set, "those answered 9 apart"
-  pub from-the-set : (k : Key) → InBytes k → Answers (mapIn (run calls) k) (mapOf (setOf (happened calls) k))
-  from-the-set k b = same-answers _ _ (map-is k b)
+  set-is : (k : Key) → InBytes k → editionIn (run calls) k ≡ editionOf (kept (happened calls)) k
+  set-is k b = let (w, i) = run-is calls bytes in rw w (edition-is (happened calls) i k b)
+
+  -- after any run, of any length and with any number of keys: each answer is the one defined from the key's set and edition, "those answered 9 apart"
+  pub from-the-set : (k : Key) → InBytes k → Answers (knownIn (run calls) k) (knownBy (kept (happened calls)) k)
+  from-the-set k b = same-answers _ _ (alike (set-is k b) (map-is k b))
 
   -- "if at no moment more than 16 keys have well-formed messages since their last forget": from all of them
   module _ (few : Few (happened calls)) where
     demand-map : (k : Key) → InBytes k → mapIn (run calls) k ≡ mapOf (since (happened calls) k)
     demand-map k b = let (w, i) = run-is calls bytes in rw w (theorem.demand-map (happened calls) i few k b)
 
-    pub demand-3 : (k : Key) → InBytes k → Answers (mapIn (run calls) k) (mapOf (since (happened calls) k))
-    demand-3 k b = same-answers _ _ (demand-map k b)
+    demand-edition : (k : Key) → InBytes k → editionIn (run calls) k ≡ editionOf (happened calls) k
+    demand-edition k b = let (w, i) = run-is calls bytes in rw w (theorem.demand-edition (happened calls) i few k b)
 
-    -- learn's own answer, and forget's
+    pub demand-3 : (k : Key) → InBytes k → Answers (knownIn (run calls) k) (knownBy (happened calls) k)
+    demand-3 k b = same-answers _ _ (alike (demand-edition k b) (demand-map k b))
+
+    -- learn's own answer, forget's, and that to an edition
     pub demand-3-learn : (id len : ℕ) (d : List ℕ) → Carried (Frame id len d) → learnt (run calls) id len d .answer ≡ plain (frameAnswer (happened calls) id len d)
     demand-3-learn id len d c = let (w, i) = run-is calls bytes in rw w (theorem.demand-frame (happened calls) i few id len d c)
 
     pub demand-3-forget : (k : Key) → InBytes k → forgotten (run calls) (keyNumber k) .answer ≡ plain (answer (happened calls) (Forget k))
     demand-3-forget k b = let (w, i) = run-is calls bytes in rw w (theorem.demand-forget (happened calls) i few k b)
 
--- two runs that leave a key the same set, whatever came before, between and to other keys, give the same answers about it
-pub same-set : (calls others : List Call) → AllCarried calls → AllCarried others → (k : Key) → InBytes k
-    → SameMembers (setOf (happened calls) k) (setOf (happened others) k) → Answers (mapIn (run calls) k) (mapIn (run others) k)
-same-set calls others bytes bytes′ k b same =
-    same-answers _ _ (map-is calls bytes k b ∙ same-map (setOf (happened calls) k) (setOf (happened others) k) same ∙ sym (map-is others bytes′ k b))
+    pub demand-3-edition : (k : Key) (e : ℕ) → InBytes k → edited (run calls) (keyNumber k) e .answer ≡ plain (answer (happened calls) (Edition k e))
+    demand-3-edition k e b = let (w, i) = run-is calls bytes in rw w (theorem.demand-set (happened calls) i few k e b)
 
--- "Order, repeats and other keys don't count": two runs with the same collection for a key give the same answers about it
+-- two runs that leave a key the same set and the same edition, whatever came before, between and to other keys, give the same answers about it
+pub same-set : (calls others : List Call) → AllCarried calls → AllCarried others → (k : Key) → InBytes k
+    → SameMembers (setOf (happened calls) k) (setOf (happened others) k) → editionOf (kept (happened calls)) k ≡ editionOf (kept (happened others)) k
+    → Answers (knownIn (run calls) k) (knownIn (run others) k)
+same-set calls others bytes bytes′ k b same edition =
+    same-answers _ _
+    (alike (set-is calls bytes k b ∙ edition ∙ sym (set-is others bytes′ k b))
+    (map-is calls bytes k b ∙ same-map (setOf (happened calls) k) (setOf (happened others) k) same ∙ sym (map-is others bytes′ k b)))
+
+-- "Order, repeats and other keys don't count", nor does the order of editions and messages between themselves: two runs with the same collection for a key, and the same
+-- edition of it, give the same answers about it
 module _ (calls others : List Call) (bytes : AllCarried calls) (bytes′ : AllCarried others) (few : Few (happened calls)) (few′ : Few (happened others)) where
-  pub same-collection : (k : Key) → InBytes k → SameMembers (since (happened calls) k) (since (happened others) k) → Answers (mapIn (run calls) k) (mapIn (run others) k)
-  same-collection k b same =
+  pub same-collection : (k : Key) → InBytes k → SameMembers (since (happened calls) k) (since (happened others) k) → editionOf (happened calls) k ≡ editionOf (happened others) k
+      → Answers (knownIn (run calls) k) (knownIn (run others) k)
+  same-collection k b same edition =
       same-answers _ _
-      (demand-map calls bytes few k b ∙ same-map (since (happened calls) k) (since (happened others) k) same ∙ sym (demand-map others bytes′ few′ k b))
+      (alike (demand-edition calls bytes few k b ∙ edition ∙ sym (demand-edition others bytes′ few′ k b))
+      (demand-map calls bytes few k b ∙ same-map (since (happened calls) k) (since (happened others) k) same ∙ sym (demand-map others bytes′ few′ k b)))
 
   -- and to a frame: a refusal 1 to 8 from the frame alone; a well-formed message by the collection of its key
   pub same-learn : (id len : ℕ) (d : List ℕ) → Carried (Frame id len d)
@@ -350,6 +392,14 @@ module _ (calls others : List Call) (bytes : AllCarried calls) (bytes′ : AllCa
       demand-3-forget calls bytes few k b
       ∙ ap (λ (e : Bool). plain (cond e 11 0)) (same-empty (since (happened calls) k) (since (happened others) k) same)
       ∙ sym (demand-3-forget others bytes′ few′ k b)
+
+  -- and to an edition
+  pub same-edition : (k : Key) (e : ℕ) → InBytes k → SameMembers (since (happened calls) k) (since (happened others) k)
+      → edited (run calls) (keyNumber k) e .answer ≡ edited (run others) (keyNumber k) e .answer
+  same-edition k e b same =
+      demand-3-edition calls bytes few k e b
+      ∙ ap (λ (x : Bool). plain (cond x 11 (cond (isEdition e) 0 27))) (same-empty (since (happened calls) k) (since (happened others) k) same)
+      ∙ sym (demand-3-edition others bytes′ few′ k e b)
 
 -- ---- "Answers about a port pair are those 01 gives from the commands naming that pair, in their order, and the frame or PGN asked about"
 

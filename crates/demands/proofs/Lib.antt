@@ -1,6 +1,8 @@
 pub mod Calls
 pub mod Demands
 pub mod Located
--- Req 01's sentences over runs of calls.
+-- Req 10's sentences over runs of calls.
+pub mod Edited
+-- Req 01's.
 pub mod Saved
 pub mod Long

@@ -1,3 +1,4 @@
 pub mod Lookup
 pub mod Rule
+pub mod Lent
 pub mod Table

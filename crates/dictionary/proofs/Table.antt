@@ -1,26 +1,17 @@
--- The look-ups in 002's rows: the laws of any list of rows, at the table.
+-- The look-ups in 002's rows, and in those of an edition: the laws of any list of rows, at the tables.
 -- Assumes nothing.
-use mathlib.Core.Path.{_≡_, refl, sym, ap, _∙_}
-use mathlib.Core.List.{List, []}
-use mathlib.Core.Bool.{Bool}
+use mathlib.Core.Path.{_≡_, refl, sym, ap}
 use mathlib.Core.Option.{none, some, Option·some-injective, Option·none-ne-some, Option·some-ne-none}
 use Prim.Native.Nat.{ℕ, _≤_, _<_}
-use native.Mathlib.Decide.{decLt}
 use native.Mathlib.Omega.{arith}
-use lib.Dec.{eqb, leb}
-use lib.ListN.{length, getD}
-use borrow.Author.Tests.{eq-eqb, ne-eqb}
 use Rattle.words.specs.First.{first}
-use Rattle.words.specs.Halve.{turns, halved}
-use Rattle.words.proofs.First.{first-below}
-use Rattle.words.proofs.Tests.{never}
-use Rattle.words.proofs.Halve.{halved-key}
-use Rattle.rowrule.specs.Rows.{table, rowCount, rowAt, pairs}
-use Rattle.rowrule.proofs.Table.{size, table-ruled, pairs-size, pairs-at}
+use Rattle.words.specs.Halve.{turns}
+use Rattle.rowrule.specs.Rows.{table, rowCount, rowAt, rowsBy}
+use Rattle.rowrule.proofs.Table.{size, table-ruled, rows-ruled}
 use Rattle.dictionary.specs.declared.Found.{Found}
 use Rattle.dictionary.specs.declared.Found.the-variants.{At, Nothing}
-use Rattle.dictionary.specs.Dictionary.{widthOf, numberOf, foundRow}
-use Rattle.dictionary.proofs.Lookup.{Has, Lacks, looked, at-found, at-none, none-found}
+use Rattle.dictionary.specs.Dictionary.{widthOf, widthBy, numberOf, foundRow}
+use Rattle.dictionary.proofs.Lookup.{Has, Lacks, looked, at-found, none-found}
 use Rattle.dictionary.proofs.Rule.{rising, widths, once, found, width-most-in, width-none-in}
 
 -- rising order, each SPN once, and the width, at each row
@@ -33,10 +24,10 @@ table-once i j hi hj = once 0 table table-ruled i j (omega (arith, size)) (omega
 pub table-widths : (k : ℕ) → k < rowCount → (1 ≤ rowAt k .width) × (rowAt k .width ≤ 32)
 table-widths k h = widths 0 table table-ruled k (omega (arith, size))
 
--- no SPN has a width above 32: all that a law over maps needs of the dictionary
-pub width-most : (s : ℕ) → widthOf s ≤ 32
-unfolding widthOf
-width-most s = width-most-in 0 table table-ruled s
+-- of no edition has an SPN a width above 32: all that a law over maps needs of the dictionary
+pub width-most : (edition s : ℕ) → widthBy edition s ≤ 32
+unfolding widthBy
+width-most edition s = width-most-in 0 (rowsBy edition) (rows-ruled edition) s
 
 -- a width of 0 says that the SPN isn't in the dictionary
 pub width-absent : (s : ℕ) → widthOf s ≡ 0 → Lacks table s rowCount
@@ -57,39 +48,21 @@ pub number-some : (s i : ℕ) → some i ≡ numberOf s → (i < rowCount) × Ha
 unfolding numberOf widthOf
 number-some s i e = let f = at-found (looked table s) (sym e) in (omega (arith, size), f .1, f .2)
 
--- where there is none, no row has the SPN, and its width is 0
-pub number-none : (s : ℕ) → none ≡ numberOf s → Lacks table s rowCount × (widthOf s ≡ 0)
-unfolding numberOf widthOf
-number-none s e = let f = at-none (looked table s) (sym e) in (λ k h. f .0 k (omega (arith, size)), f .1)
-
--- ---- halving
-
--- what halving asks of a row: its SPN is not below
-abbrev pub notBelow : ℕ → ℕ → Bool
-notBelow s i = leb s (rowAt i .spn)
-
--- 140 rows take 8 turns
+-- 140 rows take 8 turns, and 12 take 4
 pub table-turns : turns rowCount ≡ 8
 unfolding turns first
 table-turns = refl
 
--- where the row that halving comes to has not the SPN, no row has it
-pub halved-nowhere : (s : ℕ) → (rowAt (halved (notBelow s) rowCount) .spn ≡ s → ⊥) → none ≡ numberOf s
-halved-nowhere s other = number-nowhere s (λ k h has. never (eq-eqb (rowAt k .spn) s has) (first-below (λ i. eqb (rowAt i .spn) s) rowCount k (omega (arith, none-has))))
-  where
-    rises : (i j : ℕ) → i ≤ j → j < rowCount → rowAt i .spn ≤ rowAt j .spn
-    rises i j l h = elim (decLt i j) [ yes b ↦ omega (arith, table-rising i j b h) | no b ↦ let e : i ≡ j = omega arith in rw e (omega arith) ]
+pub turns-2004 : turns 12 ≡ 4
+unfolding turns first
+turns-2004 = refl
 
-    none-has : first (λ i. eqb (rowAt i .spn) s) rowCount ≡ rowCount
-    none-has = rw (ne-eqb (rowAt (halved (notBelow s) rowCount) .spn) s other) at (halved-key (λ i. rowAt i .spn) rowCount s (omega arith) rises)
+-- ---- two editions
 
--- the rows as they are lent
-module _ (ps : List (List ℕ)) (e : ps ≡ pairs) where
-  pub lent-size : length ps ≡ rowCount
-  lent-size = ap length e ∙ pairs-size
-
-  pub lent-at : (i : ℕ) → (getD (getD ps i []) 0 0 ≡ rowAt i .spn) × (getD (getD ps i []) 1 0 ≡ rowAt i .width)
-  lent-at i = rw e (pairs-at i)
+-- that of 2010 is 002's
+pub newer : (s : ℕ) → widthBy 2010 s ≡ widthOf s
+unfolding widthBy widthOf
+newer s = refl
 
 -- two answers that say the same are the same
 pub found-one : (a b : Found) → foundRow a ≡ foundRow b → a ≡ b

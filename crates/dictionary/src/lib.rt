@@ -1,11 +1,14 @@
-// The dictionary: where an SPN stands in it, and how wide its parameter is (01, "A set and its judgement"). Any SPN may be asked. The rows are the
-// crate rows', the test of their rule is the crate rowrule's; what the rule gives at each row, and the laws of a look-up, stand in proofs/.
-// A public call lays the rows out once; they are lent to the private functions below it, and to nobody else.
+// The two dictionaries, that of 2010 (002) and the older one of 2004 (000; 02, Req 10): where an SPN stands in the first, and how wide its parameter is in either (01, "A
+// set and its judgement"). Any SPN may be asked. The rows are the crate rows', the test of their rule is the crate rowrule's; what the rule gives at each row, and the laws of
+// a look-up, stand in proofs/, once for any rows. A public call lays the rows out once; they are lent to the private functions below it, and to nobody else.
 ghost use mathlib.Core.Path.{_≡_};
 ghost use mathlib.Core.Bool.{cond};
 ghost use Prim.Native.Nat.{_≤_};
-ghost use Rattle.rowrule.specs.Rows.{pairs};
-ghost use Rattle.dictionary.specs.Dictionary.{foundRow, numberOf, widthOf, widthsOver};
+ghost use Rattle.rowrule.specs.Rows.{rowsIn};
+ghost use Rattle.dictionary.specs.Dictionary.{widthIn, numberIn, foundRow, numberOf, widthOf, widthBy, widthsOver, Lent};
+
+// The edition that has its own rows; any other number has those of 2010.
+const EDITION_2004: u32 = 2004;
 
 // The row that has an SPN, by its number from 0, or that no row has it.
 pub enum Found {
@@ -19,6 +22,8 @@ pub struct Entry {
     pub width: u32,
 }
 
+// ---- in rows that are lent
+
 // What a turn of halving goes down by: half of the rows that are left, or nothing. A step that is subtracted compiles to fewer jumps than a branch that
 // sets the place, and a jump of a search is one that no processor foresees (docs/landings/req-02.md).
 fn step(down: bool, half: usize) -> usize
@@ -30,11 +35,11 @@ fn step(down: bool, half: usize) -> usize
     0
 }
 
-// Where the SPN stands in the dictionary, whose rows are lent. The promise says nothing of the way: here by halving. n rows are left, the last of
+// Where the SPN stands in a dictionary, whose rows are lent. The promise says nothing of the way: here by halving. n rows are left, the last of
 // them at `hi`, and a turn leaves half of them, rounded up: 140 rows take 8 turns (law table-turns).
 fn row_in(rows: &[[u32; 2]], spn: u32) -> Found
-    requires { ⌜ now rows ≡ pairs ⌝ }
-    ensures { λ r. ⌜ foundRow r ≡ numberOf spn ⌝ }
+    requires { ⌜ Lent (now rows) ⌝ }
+    ensures { λ r. ⌜ foundRow r ≡ numberIn (rowsIn (now (rows .entry))) spn ⌝ }
 {
     let mut hi = rows.len() - 1;
     let mut n = rows.len();
@@ -53,8 +58,8 @@ fn row_in(rows: &[[u32; 2]], spn: u32) -> Found
 
 // The row that has the SPN by the same rows, and its width; 0 where none has it.
 fn entry_in(rows: &[[u32; 2]], spn: u32) -> Entry
-    requires { ⌜ now rows ≡ pairs ⌝ }
-    ensures { λ r. ⌜ (foundRow (r .found) ≡ numberOf spn) × (r .width ≡ widthOf spn) ⌝ }
+    requires { ⌜ Lent (now rows) ⌝ }
+    ensures { λ r. ⌜ (foundRow (r .found) ≡ numberIn (rowsIn (now (rows .entry))) spn) × (r .width ≡ widthIn (rowsIn (now (rows .entry))) spn) ⌝ }
 {
     let found = row_in(rows, spn);
     match found {
@@ -71,12 +76,26 @@ fn entry_in(rows: &[[u32; 2]], spn: u32) -> Entry
 
 // The width alone.
 fn width_in(rows: &[[u32; 2]], spn: u32) -> u32
-    requires { ⌜ now rows ≡ pairs ⌝ }
-    ensures { λ r. ⌜ r ≡ widthOf spn ⌝ }
+    requires { ⌜ Lent (now rows) ⌝ }
+    ensures { λ r. ⌜ r ≡ widthIn (rowsIn (now (rows .entry))) spn ⌝ }
 {
     let entry = entry_in(rows, spn);
     entry.width
 }
+
+// The widths of many SPNs.
+fn widths_in(rows: &[[u32; 2]], spns: &[u32], widths: &mut [u32])
+    requires { ⌜ Lent (now rows) ⌝ }
+    ensures { λ _. ⌜ now (widths .exit) ≡ widthsOver (widthIn (rowsIn (now (rows .entry)))) (now (spns .entry)) (now (widths .entry)) ⌝ }
+{
+    let mut i = 0;
+    while i < spns.len() && i < widths.len() {
+        widths[i] = width_in(rows, spns[i]);
+        i += 1;
+    }
+}
+
+// ---- in the dictionary of 2010
 
 // Where the SPN stands in the dictionary.
 pub fn row_of(spn: u32) -> Found
@@ -94,22 +113,29 @@ pub fn entry_of(spn: u32) -> Entry
     entry_in(&rows, spn)
 }
 
-// The width of the SPN's parameter in bits, and 0 where the dictionary hasn't it; at most 32 (law width-most).
-pub fn width_of(spn: u32) -> u32
-    ensures { λ r. ⌜ r ≡ widthOf spn ⌝ }
+// ---- in that of an edition
+
+// The width of the SPN's parameter in bits, and 0 where the edition's dictionary hasn't it; at most 32 (law width-most).
+pub fn width_of(edition: u32, spn: u32) -> u32
+    ensures { λ r. ⌜ r ≡ widthBy edition spn ⌝ }
 {
+    if edition == EDITION_2004 {
+        let rows = rows::all_2004();
+        return width_in(&rows, spn);
+    }
     let rows = rows::all();
     width_in(&rows, spn)
 }
 
 // The widths of many SPNs: that of each is laid over the start of `widths`, as far as both reach.
-pub fn widths_of(spns: &[u32], widths: &mut [u32])
-    ensures { λ _. ⌜ now (widths .exit) ≡ widthsOver (now (spns .entry)) (now (widths .entry)) ⌝ }
+pub fn widths_of(edition: u32, spns: &[u32], widths: &mut [u32])
+    ensures { λ _. ⌜ now (widths .exit) ≡ widthsOver (widthBy edition) (now (spns .entry)) (now (widths .entry)) ⌝ }
 {
-    let rows = rows::all();
-    let mut i = 0;
-    while i < spns.len() && i < widths.len() {
-        widths[i] = width_in(&rows, spns[i]);
-        i += 1;
+    if edition == EDITION_2004 {
+        let rows = rows::all_2004();
+        widths_in(&rows, spns, widths);
+        return;
     }
+    let rows = rows::all();
+    widths_in(&rows, spns, widths);
 }

@@ -26,7 +26,7 @@ use Rattle.transport.specs.Calls.{Received, received}
 
 -- the version of the exported calls: one more when a caller must be built again or changed
 abbrev pub version : ℕ
-version = 4
+version = 5
 
 -- an answer: its four fields are the four of `Said`
 abbrev pub saidTo : Told → Said
@@ -59,6 +59,7 @@ rowTo r = record {
   key = record { source = r .source; destination = r .destination; k = r .k };
   offset = r .offset;
   size = r .length;
+  edition = r .edition;
 }
 
 -- a held key: 1 and the key, or four times 0

@@ -6,11 +6,11 @@ ghost use Rattle.keyrow.specs.Row.{keyOf, keyNumber};
 ghost use Rattle.table.specs.Learn.{learnt, emptyTable};
 ghost use Rattle.table.specs.Forget.{forgotten};
 ghost use Rattle.lookup.specs.Next.{keyFound, firstKey, nextKey};
-ghost use Rattle.lookup.specs.View.{mapIn};
+ghost use Rattle.lookup.specs.View.{mapIn, editionIn};
+ghost use Rattle.edition.specs.Edition.{edited};
 ghost use Rattle.judge.specs.Judge.{countOf};
-ghost use Rattle.dictionary.specs.Dictionary.{widthOf};
 ghost use Rattle.ask.specs.Ask.{packedBy, reads, readBy, foundIn, foundBy, standingIn, standsBy};
-ghost use Rattle.open.specs.Open.{judgedBy};
+ghost use Rattle.open.specs.Open.{judgedBy, widthFor};
 ghost use Rattle.image.specs.Write.{imageOf, savedInto};
 ghost use Rattle.image.specs.Read.{loaded};
 ghost use Rattle.image.specs.Part.{rowEntry, rowWith};
@@ -119,7 +119,7 @@ pub struct Measured {
     pub state: u32,
 }
 
-// A row of an image: its key, and where its body begins and how long it is; all 0 on a refusal.
+// A row of an image: its key and edition, and where its body begins and how long it is; all 0 on a refusal.
 #[repr(C)]
 pub struct Row {
     pub told: Told,
@@ -128,6 +128,7 @@ pub struct Row {
     pub source: u32,
     pub destination: u32,
     pub k: u32,
+    pub edition: u32,
 }
 
 // A row of an image, as C gets it.
@@ -144,6 +145,7 @@ fn row_in_c(row: Listed) -> Row
         source: key.source as u32,
         destination: key.destination as u32,
         k: key.k as u32,
+        edition: row.edition,
     }
 }
 
@@ -241,7 +243,7 @@ fn tally_of(log: Log) -> Tally
 pub extern "C" fn yendrolf_version() -> u32
     ensures { λ r. ⌜ r ≡ version ⌝ }
 {
-    4
+    5
 }
 
 // ---- the learned table
@@ -283,6 +285,33 @@ pub extern "C" fn yendrolf_table_forget(
     in_c(table::forget(t, source, destination, k))
 }
 
+// Gives a held key another edition of the dictionary.
+#[no_mangle]
+pub extern "C" fn yendrolf_table_set_edition(
+    t: &mut [u64; lookup::WORDS],
+    source: u8,
+    destination: u8,
+    k: u8,
+    edition: u32,
+) -> Told
+    ensures { λ r. ⌜ outcome (saidTo r) (now (t .exit)) ≡ edited (now (t .entry)) (keyNumber (keyOf source destination k)) edition ⌝ }
+{
+    in_c(edition::set_edition(t, source, destination, k, edition))
+}
+
+// The edition of a key, 2010 where it is not held.
+#[no_mangle]
+pub extern "C" fn yendrolf_table_edition(
+    t: &[u64; lookup::WORDS],
+    source: u8,
+    destination: u8,
+    k: u8,
+) -> u32
+    ensures { λ r. ⌜ r ≡ editionIn (now (t .entry)) (keyOf source destination k) ⌝ }
+{
+    lookup::edition_of(t, source, destination, k)
+}
+
 // The number of parameters of a key's map.
 #[no_mangle]
 pub extern "C" fn yendrolf_table_count(
@@ -304,7 +333,7 @@ pub extern "C" fn yendrolf_table_judge(
     destination: u8,
     k: u8,
 ) -> Told
-    ensures { λ r. ⌜ saidTo r ≡ judgedBy widthOf (mapIn (now (t .entry)) (keyOf source destination k)) ⌝ }
+    ensures { λ r. ⌜ saidTo r ≡ judgedBy (widthFor (now (t .entry)) (keyOf source destination k)) (mapIn (now (t .entry)) (keyOf source destination k)) ⌝ }
 {
     in_c(ask::judge(t, source, destination, k))
 }
@@ -320,7 +349,7 @@ pub extern "C" fn yendrolf_table_pack(
     payload: &mut [u8],
 ) -> Told
     ensures { λ r. ⌜ outcome (saidTo r) (now (payload .exit))
-        ≡ packedBy widthOf (mapIn (now (t .entry)) (keyOf source destination k)) (now (numbers .entry)) (now (payload .entry)) ⌝ }
+        ≡ packedBy (widthFor (now (t .entry)) (keyOf source destination k)) (mapIn (now (t .entry)) (keyOf source destination k)) (now (numbers .entry)) (now (payload .entry)) ⌝ }
 {
     in_c(ask::pack(t, source, destination, k, numbers, payload))
 }
@@ -337,7 +366,7 @@ pub extern "C" fn yendrolf_table_read(
     states: &mut [u8],
 ) -> Told
     ensures { λ r. ⌜ reads (saidTo r) (now (numbers .exit)) (now (states .exit))
-        ≡ readBy widthOf (mapIn (now (t .entry)) (keyOf source destination k)) (now (payload .entry)) (now (numbers .entry)) (now (states .entry)) ⌝ }
+        ≡ readBy (widthFor (now (t .entry)) (keyOf source destination k)) (mapIn (now (t .entry)) (keyOf source destination k)) (now (payload .entry)) (now (numbers .entry)) (now (states .entry)) ⌝ }
 {
     let answer = ask::read(t, source, destination, k, payload, numbers, states);
     in_c(answer)
@@ -352,7 +381,7 @@ pub extern "C" fn yendrolf_table_find(
     k: u8,
     spn: u32,
 ) -> Located
-    ensures { λ r. ⌜ findingTo r ≡ foundBy widthOf (mapIn (now (t .entry)) (keyOf source destination k)) spn ⌝ }
+    ensures { λ r. ⌜ findingTo r ≡ foundBy (widthFor (now (t .entry)) (keyOf source destination k)) (mapIn (now (t .entry)) (keyOf source destination k)) spn ⌝ }
 {
     found_in_c(ask::find(t, source, destination, k, spn))
 }
@@ -366,7 +395,7 @@ pub extern "C" fn yendrolf_table_parameter_at(
     k: u8,
     position: u8,
 ) -> Placed
-    ensures { λ r. ⌜ standingTo r ≡ standsBy widthOf (mapIn (now (t .entry)) (keyOf source destination k)) position ⌝ }
+    ensures { λ r. ⌜ standingTo r ≡ standsBy (widthFor (now (t .entry)) (keyOf source destination k)) (mapIn (now (t .entry)) (keyOf source destination k)) position ⌝ }
 {
     placed_in_c(ask::parameter_at(t, source, destination, k, position))
 }
@@ -404,7 +433,7 @@ pub extern "C" fn yendrolf_table_locate(
     start: usize,
 ) -> Told
     ensures { λ r. ⌜ outcome (saidTo r) (now (log .exit))
-        ≡ locatedBy widthOf (now (t .entry)) own id len (now (d .entry)) (now (log .entry)) start ⌝ }
+        ≡ locatedBy (widthFor (now (t .entry))) (now (t .entry)) own id len (now (d .entry)) (now (log .entry)) start ⌝ }
 {
     in_c(locate::locate(t, own, id, len, d, log, start))
 }

@@ -13,7 +13,7 @@ use Rattle.message.specs.declared.Message.{Message}
 use Rattle.maps.specs.Maps.{sameKey, conflict, Map, Nothing, Conflict, Held, mapOf, learned, isNothing, isConflict}
 use Rattle.words.proofs.Tests.{test, never}
 use Rattle.maps.proofs.Tests.{key-eq}
-use Rattle.history.specs.History.{mostKeys, Event, Learn, Forget, names, isEmpty, since, keys, noRoom, answer, kept, setOf, Few}
+use Rattle.history.specs.History.{mostKeys, Event, Learn, Forget, Edition, names, isEmpty, since, keys, noRoom, isEdition, answer, kept, setOf, Few}
 use Rattle.history.specs.Table.{Table, full, number, after}
 use Rattle.history.proofs.Follows.{Calls, follows, answers}
 use Rattle.history.proofs.Keys.{has, without-le, without-one, has-keys, keys-once}
@@ -28,11 +28,20 @@ eleven-or-zero : (c : Bool) → eqb (cond {A = ℕ} c 11 0) 9 ≡ false
 eleven-or-zero true = refl
 eleven-or-zero false = refl
 
+-- an edition is answered 11, 27 or 0
+no-nine : (c d : Bool) → eqb (cond {A = ℕ} c 11 (cond d 0 27)) 9 ≡ false
+no-nine true d = refl
+no-nine false true = refl
+no-nine false false = refl
+
 pub nine-if-full : (t : Table) (m : Message) → eqb (number t (Learn m)) 9 ≡ full t (m .key)
 nine-if-full t m = test (full t (m .key)) (λ e. rw e) (λ f. rw f (ten-or-zero (isConflict (learned (t .look (m .key)) m))))
 
 pub never-nine : (t : Table) (k : Key) → eqb (number t (Forget k)) 9 ≡ false
 never-nine t k = eleven-or-zero (isNothing (t .look k))
+
+pub edition-nine : (t : Table) (k : Key) (e : ℕ) → eqb (number t (Edition k e)) 9 ≡ false
+edition-nine t k e = no-nine (isNothing (t .look k)) (isEdition e)
 
 -- ---- every answer is the defined one, and what is held of a key is the map of its set, whatever the history
 
@@ -55,6 +64,7 @@ room h m b =
 not-nine : (h : List Event) (e : Event) → length (keys (e ∷ h)) ≤ mostKeys → eqb (answer h e) 9 ≡ false
 not-nine h (Learn m) b = rw (room h m b) (ten-or-zero (conflict (m ∷ since h (m .key))))
 not-nine h (Forget k) b = eleven-or-zero (isEmpty (since h k))
+not-nine h (Edition k e) b = no-nine (isEmpty (since h k)) (isEdition e)
 
 pub all-kept : (h : List Event) → Few h → kept h ≡ h
 all-kept [] u = refl
@@ -113,6 +123,7 @@ at-most (Learn m ∷ h) =
     test (noRoom (kept h) (m .key)) (λ t. rw t (at-most h))
     (λ f. rw (f, ten-or-zero (conflict (m ∷ setOf h (m .key)))) (has-room (kept h) m f (at-most h)))
 at-most (Forget k ∷ h) = rw (eleven-or-zero (isEmpty (setOf h k))) (omega (arith, without-le k (keys (kept h)), at-most h))
+at-most (Edition k e ∷ h) = rw (no-nine (isEmpty (setOf h k)) (isEdition e)) (at-most h)
 
 pub nine : {h : List Event} {t : Table} → Calls h t → (m : Message) → (number t (Learn m) ≡ 9) ↔ ((setOf h (m .key) ≡ []) × (length (keys (kept h)) ≡ mostKeys))
 nine {h} {t} s m =
@@ -124,8 +135,11 @@ nine {h} {t} s m =
 
 -- ---- a forget makes room
 
-kept-forget : (h : List Event) (k : Key) → kept (Forget k ∷ h) ≡ Forget k ∷ kept h
+pub kept-forget : (h : List Event) (k : Key) → kept (Forget k ∷ h) ≡ Forget k ∷ kept h
 kept-forget h k = rw (eleven-or-zero (isEmpty (setOf h k)))
+
+pub kept-edition : (h : List Event) (k : Key) (e : ℕ) → kept (Edition k e ∷ h) ≡ Edition k e ∷ kept h
+kept-edition h k e = rw (no-nine (isEmpty (setOf h k)) (isEdition e))
 
 -- where a held key is forgotten, one key less is held
 pub one-less : (h : List Event) (k : Key) → (setOf h k ≡ [] → ⊥) → suc (length (keys (kept (Forget k ∷ h)))) ≡ length (keys (kept h))

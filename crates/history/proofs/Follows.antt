@@ -10,7 +10,7 @@ use Rattle.message.specs.declared.Message.{Message}
 use Rattle.maps.specs.Maps.{conflict, Nothing, mapOf, isNothing, isConflict}
 use Rattle.words.proofs.Tests.{test}
 use Rattle.maps.proofs.Maps.{map-more}
-use Rattle.history.specs.History.{Event, Learn, Forget, isEmpty, since, keys, noRoom, answer, kept}
+use Rattle.history.specs.History.{Event, Learn, Forget, Edition, isEmpty, since, keys, noRoom, answer, kept}
 use Rattle.history.specs.Table.{Table, full, number, after}
 use Rattle.history.proofs.Since.{one-event}
 use Rattle.history.proofs.Keys.{has, Once, has-keys, keys-once, same-count}
@@ -38,6 +38,7 @@ pub answers : (t : Table) (h : List Event) → Follows t h → (e : Event) → n
 answers t h u (Learn m) =
     rw (full-is t h (m .key) u, u .rows (m .key), ← (map-more m (since h (m .key))), conflict-is m (since h (m .key)))
 answers t h u (Forget k) = rw (u .rows k, nothing-is (since h k))
+answers t h u (Edition k e) = rw (u .rows k, nothing-is (since h k))
 
 -- an event that is answered 9 changes nothing, and any other is one event more
 rows-after : (t : Table) (h : List Event) → Follows t h → (e : Event) (k : Key) → after t e k ≡ mapOf (since (cond (not (eqb (answer h e) 9)) (e ∷ h) h) k)

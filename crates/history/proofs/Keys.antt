@@ -10,7 +10,7 @@ use Rattle.message.specs.declared.Key.{Key}
 use Rattle.maps.specs.Maps.{sameKey}
 use Rattle.words.proofs.Tests.{test, never}
 use Rattle.maps.proofs.Tests.{key-eq, key-refl}
-use Rattle.history.specs.History.{Event, Learn, Forget, isEmpty, since, without, keys}
+use Rattle.history.specs.History.{Event, Learn, Forget, Edition, isEmpty, since, without, keys}
 
 -- the key stands in the list
 abbrev pub has : Key → List Key → Bool
@@ -88,9 +88,11 @@ has-keys (Learn m ∷ h) k =
     test (isEmpty (since h (m .key))) (λ t. rw t (test (sameKey (m .key) k) (λ s. rw s) (λ f. rw (f, has-keys h k))))
     (λ n. rw (n, has-keys h k) (test (sameKey (m .key) k) (λ s. rw (s, ← (key-eq (m .key) k s), n)) (λ f. rw f)))
 has-keys (Forget j ∷ h) k = has-without k j (keys h) ∙ test (sameKey j k) (λ t. rw t) (λ f. rw (f, has-keys h k))
+has-keys (Edition j e ∷ h) k = has-keys h k ∙ test (sameKey j k) (λ t. rw t) (λ f. rw f)
 
 pub keys-once : (h : List Event) → Once (keys h)
 keys-once [] = tt
 keys-once (Learn m ∷ h) =
     test (isEmpty (since h (m .key))) (λ t. rw t (has-keys h (m .key) ∙ ap not t, keys-once h)) (λ f. rw f (keys-once h))
 keys-once (Forget k ∷ h) = once-without k (keys h) (keys-once h)
+keys-once (Edition k e ∷ h) = keys-once h

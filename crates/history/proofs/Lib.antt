@@ -3,3 +3,4 @@ pub mod Keys
 pub mod Follows
 pub mod Demand
 pub mod Same
+pub mod Edition

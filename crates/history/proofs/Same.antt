@@ -8,7 +8,7 @@ use Rattle.message.specs.declared.Key.{Key}
 use Rattle.message.specs.declared.Message.{Message}
 use Rattle.maps.specs.Maps.{conflict, SameMembers, isNothing, isConflict}
 use Rattle.maps.proofs.Maps.{same-map}
-use Rattle.history.specs.History.{Event, Learn, Forget, subject, isEmpty, since, answer, Few}
+use Rattle.history.specs.History.{Event, Learn, Forget, Edition, subject, isEmpty, since, answer, Few}
 use Rattle.history.proofs.Follows.{nothing-is, conflict-is}
 use Rattle.history.proofs.Demand.{room}
 
@@ -34,3 +34,4 @@ pub same-answer : (h g : List Event) (e : Event) → Few (e ∷ h) → Few (e �
 same-answer h g (Learn m) u v same =
     rw (room h m (u .0), room g m (v .0), same-conflict m (since h (m .key)) (since g (m .key)) same)
 same-answer h g (Forget k) u v same = same-forgotten h g k same
+same-answer h g (Edition k e) u v same = rw (same-empty (since h k) (since g k) same)

@@ -1,4 +1,4 @@
--- Loading into an empty table, whatever came before: none of the messages is answered 9, and every key has the map that it has in a fresh box. Assumes nothing.
+-- Loading into an empty table, whatever came before: none of the messages is answered 9, and every key has the map and the edition that it has in a fresh box. Assumes nothing.
 use Prim.Native.Nat.{ℕ, _+_, _≤_}
 use native.Mathlib.Omega.{arith}
 use mathlib.Core.Path.{_≡_, refl, sym, ap, _∙_}
@@ -12,21 +12,26 @@ use Rattle.record.specs.Record.{Bytes}
 use Rattle.answers.specs.Answers.{Outcome, outcome, plain}
 use Rattle.answers.proofs.Tests.{leaves}
 use Rattle.maps.specs.Maps.{mapOf, sameKey, conflict}
-use Rattle.history.specs.History.{mostKeys, Event, Learn, isEmpty, since, keys, noRoom, counts, kept, setOf, Few}
+use Rattle.history.specs.History.{mostKeys, Event, Learn, isEmpty, since, keys, noRoom, counts, kept, setOf, editionOf, Few}
+use Rattle.history.proofs.Edition.{edition-unheld}
 use Rattle.history.proofs.Keys.{has, has-keys}
 use Rattle.history.proofs.Demand.{ten-or-zero, room, all-kept}
 use Rattle.keyrow.specs.Row.{InBytes}
-use Rattle.lookup.specs.View.{mapIn}
+use Rattle.lookup.specs.View.{mapIn, editionIn}
 use Rattle.lookup.specs.Next.{heldKeys}
 use Rattle.table.specs.Learn.{emptyTable}
 use Rattle.learned.specs.Events.{wordsFrom, wordsBy, AllInWords}
 use Rattle.learned.proofs.Histories.{words-append, all-append}
+use Rattle.learned.proofs.Editions.{edition-is}
 use Rattle.learned.proofs.Theorem.{map-is, listed-count}
-use Rattle.image.specs.Read.{eventsOf, good, loadTests, loaded}
+use Rattle.image.specs.Write.{savedKeys}
+use Rattle.image.specs.Read.{formOf, eventsOf, good, loadTests, loaded}
 use Rattle.taught.specs.Taught.{AllTaught}
 use Rattle.taught.proofs.Histories.{taught-in-words}
 use Rattle.image.proofs.Members.{learnAll}
-use Rattle.image.proofs.Again.{events-taught, ms, stands-for, few-keys, good-is}
+use Rattle.image.proofs.Parse.{form-two, editedAll}
+use Rattle.image.proofs.Editions.{since-edited, edited-append, kept-edited, edition-alike, edition-learned, edition-fresh}
+use Rattle.image.proofs.Again.{events-taught, given, ms, stands-for, few-messages, good-is, can-tell}
 
 -- ---- a refused load changes no word
 
@@ -37,6 +42,9 @@ load-refused t l n = leaves (loadTests t l) t (outcome (plain 0) (wordsFrom t (e
 -- ---- messages after a history that left no key
 
 module _ (g : List Event) (none-left : (k : Key) → since g k ≡ []) (no-keys : keys g ≡ []) where
+  none-set : (k : Key) → editionOf g k ≡ 2010
+  none-set k = edition-unheld g k (ap isEmpty (none-left k))
+
   since-over : (ms : List Message) (k : Key) → since (learnAll ms ++ g) k ≡ since (learnAll ms) k
   since-over [] k = none-left k
   since-over (m ∷ ms) k = test (sameKey (m .key) k) (λ t. rw t (ap (λ (s : List Message). m ∷ s) (since-over ms k))) (λ f. rw f (since-over ms k))
@@ -100,26 +108,55 @@ module _ (h : List Event) (ok : AllInWords h) where
       ours : AllTaught (eventsOf l)
       ours = events-taught l b
 
-      events-are : eventsOf l ≡ learnAll (ms (eventsOf l) ours)
-      events-are = ap eventsOf (sym (good-is l g)) ∙ stands-for (eventsOf l) ours
+      -- its messages, and then the editions of some keys
+      abbrev mine : List Message
+      mine = ms (formOf l) (form-two l) (eventsOf l) ours (can-tell l b)
 
-      few-told : Few (learnAll (ms (eventsOf l) ours))
-      few-told = few-keys (eventsOf l) ours
+      abbrev theirs : Key → ℕ
+      theirs = editionIn (wordsBy (eventsOf l))
+
+      abbrev whose : List Key
+      whose = given (formOf l) (savedKeys (wordsBy (eventsOf l)))
+
+      events-are : eventsOf l ≡ editedAll theirs whose (learnAll mine)
+      events-are = ap eventsOf (sym (good-is l g)) ∙ stands-for (formOf l) (form-two l) (eventsOf l) ours (can-tell l b)
+
+      few-told : Few (learnAll mine)
+      few-told = few-messages (formOf l) (form-two l) (eventsOf l) ours (can-tell l b)
+
+      -- none of them is left out
+      kept-told : kept (eventsOf l ++ h) ≡ editedAll theirs whose (learnAll mine ++ kept h)
+      kept-told =
+          ap (λ (x : List Event). kept (x ++ h)) events-are ∙ ap kept (edited-append theirs whose (learnAll mine) h)
+          ∙ kept-edited theirs whose (learnAll mine ++ h) ∙ ap (editedAll theirs whose) (all-count (kept h) left-none left-keys h refl mine few-told)
 
       pub kept-all : kept (eventsOf l ++ h) ≡ eventsOf l ++ kept h
-      kept-all =
-          ap (λ (x : List Event). kept (x ++ h)) events-are
-          ∙ all-count (kept h) left-none left-keys h refl (ms (eventsOf l) ours) few-told
-          ∙ ap (λ (x : List Event). x ++ kept h) (sym events-are)
+      kept-all = kept-told ∙ sym (edited-append theirs whose (learnAll mine) (kept h)) ∙ ap (λ (x : List Event). x ++ kept h) (sym events-are)
+
+      kept-own : kept (eventsOf l) ≡ editedAll theirs whose (learnAll mine)
+      kept-own = ap kept events-are ∙ kept-edited theirs whose (learnAll mine) ∙ ap (editedAll theirs whose) (all-kept (learnAll mine) few-told)
 
       same-set : (k : Key) → setOf (eventsOf l ++ h) k ≡ setOf (eventsOf l) k
       same-set k =
-          ap (λ (x : List Event). since x k) (kept-all ∙ ap (λ (x : List Event). x ++ kept h) events-are)
-          ∙ since-over (kept h) left-none left-keys (ms (eventsOf l) ours) k
-          ∙ ap (λ (x : List Event). since x k) (sym (all-kept (learnAll (ms (eventsOf l) ours)) few-told) ∙ ap kept (sym events-are))
+          ap (λ (x : List Event). since x k) kept-told ∙ since-edited theirs whose (learnAll mine ++ kept h) k
+          ∙ since-over (kept h) left-none left-keys mine k
+          ∙ sym (ap (λ (x : List Event). since x k) kept-own ∙ since-edited theirs whose (learnAll mine) k)
+
+      same-edition : (k : Key) → editionOf (kept (eventsOf l ++ h)) k ≡ editionOf (kept (eventsOf l)) k
+      same-edition k =
+          ap (λ (x : List Event). editionOf x k) kept-told
+          ∙ edition-alike theirs whose (learnAll mine ++ kept h) (learnAll mine) k (since-over (kept h) left-none left-keys mine k)
+          (edition-learned mine (kept h) k ∙ none-set (kept h) left-none left-keys k ∙ sym (edition-fresh mine k))
+          ∙ sym (ap (λ (x : List Event). editionOf x k) kept-own)
 
       pub into-empty : (k : Key) → InBytes k → mapIn (loaded (wordsBy h) l .memory) k ≡ mapIn (wordsBy (eventsOf l)) k
       into-empty k i =
           ap (λ (o : Outcome). mapIn (o .memory) k) load-done
           ∙ map-is (eventsOf l ++ h) (all-append (eventsOf l) h (taught-in-words (eventsOf l) ours) ok) k i
           ∙ ap mapOf (same-set k) ∙ sym (map-is (eventsOf l) (taught-in-words (eventsOf l) ours) k i)
+
+      pub edition-into-empty : (k : Key) → InBytes k → editionIn (loaded (wordsBy h) l .memory) k ≡ editionIn (wordsBy (eventsOf l)) k
+      edition-into-empty k i =
+          ap (λ (o : Outcome). editionIn (o .memory) k) load-done
+          ∙ edition-is (eventsOf l ++ h) (all-append (eventsOf l) h (taught-in-words (eventsOf l) ours) ok) k i
+          ∙ same-edition k ∙ sym (edition-is (eventsOf l) (taught-in-words (eventsOf l) ours) k i)

@@ -8,7 +8,7 @@ use Rattle.message.specs.declared.Message.{Message}
 use Rattle.maps.specs.Maps.{Map, mapOf, conflict, contradicts, sameHead, samePlace}
 use Rattle.keyrow.specs.Row.{keyOf}
 use Rattle.written.specs.Written.{fiveOf}
-use Rattle.image.specs.Write.{bodyFrom, rowBytes, rowsOf, bodiesOf, imageFrom}
+use Rattle.image.specs.Write.{bodyFrom, fullRow, rowBytes, rowsOf, bodiesOf, imageFrom}
 
 abbrev says : ℕ → ℕ → ℕ → Message
 says p spn start = record {
@@ -21,8 +21,14 @@ says p spn start = record {
 abbrev map : Key → Map
 map k = mapOf (says 2 1519 8 ∷ says 1 1517 0 ∷ [])
 
--- form 1 and one row; the key, its body at byte 9 with 10 bytes; the two positions
-pub worked : imageFrom map (keyOf 38 39 1 ∷ [])
-    ≡ 1 ∷ 1 ∷ 38 ∷ 39 ∷ 1 ∷ 9 ∷ 0 ∷ 10 ∷ 0 ∷ 237 ∷ 5 ∷ 1 ∷ 2 ∷ 1 ∷ 239 ∷ 5 ∷ 2 ∷ 2 ∷ 9 ∷ []
-unfolding imageFrom rowsOf bodiesOf rowBytes bodyFrom fiveOf conflict contradicts sameHead samePlace
+-- form 2 and one row; the key, its body at byte 10 with 10 bytes, its edition 2010; the two positions
+pub worked : imageFrom 2 (λ k. 2010) map (keyOf 38 39 1 ∷ [])
+    ≡ 2 ∷ 1 ∷ 38 ∷ 39 ∷ 1 ∷ 10 ∷ 0 ∷ 10 ∷ 0 ∷ 0 ∷ 237 ∷ 5 ∷ 1 ∷ 2 ∷ 1 ∷ 239 ∷ 5 ∷ 2 ∷ 2 ∷ 9 ∷ []
+unfolding imageFrom rowsOf bodiesOf rowBytes fullRow bodyFrom fiveOf conflict contradicts sameHead samePlace
 worked = refl
+
+-- as it was written in form 1, without the edition, so that the body begins a byte before
+pub worked-old : imageFrom 1 (λ k. 2010) map (keyOf 38 39 1 ∷ [])
+    ≡ 1 ∷ 1 ∷ 38 ∷ 39 ∷ 1 ∷ 9 ∷ 0 ∷ 10 ∷ 0 ∷ 237 ∷ 5 ∷ 1 ∷ 2 ∷ 1 ∷ 239 ∷ 5 ∷ 2 ∷ 2 ∷ 9 ∷ []
+unfolding imageFrom rowsOf bodiesOf rowBytes fullRow bodyFrom fiveOf conflict contradicts sameHead samePlace
+worked-old = refl

@@ -6,24 +6,26 @@ use mathlib.Core.Path.{_≡_, refl, sym}
 use mathlib.Core.Bool.{Bool, true, false, or-true}
 use mathlib.Core.Option.{Option}
 use mathlib.Core.List.{List, [], _∷_, _++_}
-use lib.ListN.{length, length-append}
+use lib.Dec.{eqb}
+use lib.ListN.{length, take, length-append}
+use Rattle.words.proofs.Tests.{test}
 use Rattle.message.specs.declared.Key.{Key}
 use Rattle.message.specs.declared.Head.{Head}
 use Rattle.message.specs.declared.Place.{Place}
 use Rattle.record.specs.Record.{Bytes}
-use Rattle.dictionary.specs.Dictionary.{widthOf}
 use Rattle.maps.specs.Maps.{Map, Nothing, Conflict, Held, sameKey}
 use Rattle.maps.proofs.Tests.{key-refl}
 use Rattle.judge.specs.Judge.{countOf}
 use Rattle.history.specs.History.{Event}
 use Rattle.history.proofs.Keys.{has}
 use Rattle.keyrow.specs.Row.{InBytes}
-use Rattle.lookup.specs.View.{mapIn}
+use Rattle.lookup.specs.View.{mapIn, editionIn}
 use Rattle.learned.specs.Events.{wordsBy}
+use Rattle.open.specs.Open.{widthFor}
 use Rattle.open.proofs.InHand.{usable-few}
 use Rattle.written.specs.Written.{flag, fiveOf}
 use Rattle.taught.specs.Taught.{AllTaught}
-use Rattle.image.specs.Write.{placeOr, bodyFrom, bodyOf, rowBytes, behind, rowsOf, bodiesOf, imageFrom, savedKeys, imageOf}
+use Rattle.image.specs.Write.{placeOr, bodyFrom, bodyOf, editionByte, fullRow, rowSize, rowBytes, behind, rowsOf, bodiesOf, imageFrom, savedKeys, imageIn}
 use Rattle.image.proofs.Parse.{length-body, length-rows}
 use Rattle.image.proofs.Sayable.{SayableMap, map-sayable}
 use Rattle.image.proofs.Chosen.{few-saved, saved-usable, saved-bytes}
@@ -44,18 +46,20 @@ module _ (map : Key → Map) (most : ℕ) where
       let one = f k (rw (key-refl k)) in
       rw (length-append (bodyOf (map k)) (bodiesOf map ks), mul-suc most (length ks)) (omega (arith, ih, one))
 
-image-long : (map : Key → Map) (most : ℕ) (ks : List Key) → ((k : Key) → has k ks ≡ true → length (bodyOf (map k)) ≤ most) → length (imageFrom map ks) ≤ 2 + 7 * length ks + most * length ks
+image-long : (form : ℕ) (edition : Key → ℕ) (map : Key → Map) (most : ℕ) (ks : List Key) → ((k : Key) → has k ks ≡ true → length (bodyOf (map k)) ≤ most)
+    → length (imageFrom form edition map ks) ≤ 2 + 8 * length ks + most * length ks
 unfolding imageFrom
-image-long map most ks f =
+image-long form edition map most ks f =
     let d = bodies-length map most ks f in
-    let e = length-rows map (behind (length ks)) ks in
-    simp length-append (omega (arith, d, e))
+    let e = length-rows form edition map (behind form (length ks)) ks in
+    let w : rowSize form * length ks ≤ 8 * length ks = test (eqb form 1) (λ y. rw y (omega arith)) (λ n. rw n (omega arith)) in
+    simp length-append (omega (arith, d, e, w))
 
 -- on any words: 16 rows with 64 positions each
-pub image-length : (t : List ℕ) → length (imageOf t) ≤ 5234
-unfolding imageOf
-image-length t =
-    let f = image-long (mapIn t) 320 (savedKeys t) (λ k e. omega (arith, body-length (mapIn t k), usable-few widthOf t k (saved-usable t k e))) in
+pub image-length : (form : ℕ) (t : List ℕ) → length (imageIn form t) ≤ 5250
+unfolding imageIn
+image-length form t =
+    let f = image-long form (editionIn t) (mapIn t) 320 (savedKeys t) (λ k e. omega (arith, body-length (mapIn t k), usable-few (widthFor t k) t k (saved-usable t k e))) in
     omega (arith, f, few-saved t)
 
 -- of a table that calls can bring: 16 rows with 31 positions each
@@ -64,11 +68,11 @@ sayable-count k Nothing u = omega arith
 sayable-count k Conflict u = omega arith
 sayable-count k (Held h places) u = u .count .1
 
-pub most-long : (h : List Event) → AllTaught h → length (imageOf (wordsBy h)) ≤ 2594
-unfolding imageOf
-most-long h ok =
+pub most-long : (form : ℕ) (h : List Event) → AllTaught h → length (imageIn form (wordsBy h)) ≤ 2610
+unfolding imageIn
+most-long form h ok =
     let t = wordsBy h in
-    let f = image-long (mapIn t) 155 (savedKeys t) (λ k e. omega (arith, body-length (mapIn t k), sayable-count k (mapIn t k) (map-sayable h ok k (saved-bytes t k e)))) in
+    let f = image-long form (editionIn t) (mapIn t) 155 (savedKeys t) (λ k e. omega (arith, body-length (mapIn t k), sayable-count k (mapIn t k) (map-sayable h ok k (saved-bytes t k e)))) in
     omega (arith, f, few-saved t)
 
 -- ---- an image is bytes
@@ -97,30 +101,39 @@ map-bytes Nothing = tt
 map-bytes Conflict = tt
 map-bytes (Held h places) = body-bytes h places 1 (h .n)
 
-row-bytes : (k : Key) (at n : ℕ) → InBytes k → Bytes (rowBytes k at n)
-unfolding rowBytes
-row-bytes k at n b = (b .source, (b .destination, (b .number, (omega arith, (omega arith, (omega arith, (omega arith, tt)))))))
+bytes-first : (n : ℕ) (l : List ℕ) → Bytes l → Bytes (take n l)
+bytes-first zero l b = tt
+bytes-first (suc n) [] b = tt
+bytes-first (suc n) (x ∷ l) b = (b .0, bytes-first n l (b .1))
 
-module _ (map : Key → Map) where
-  rows-bytes : (ks : List Key) → ((k : Key) → has k ks ≡ true → InBytes k) → (from : ℕ) → Bytes (rowsOf map from ks)
-  unfolding rowsOf
-  rows-bytes [] f from = tt
-  rows-bytes (k ∷ ks) f from =
-      both (rowBytes k from (length (bodyOf (map k)))) (rowsOf map (from + length (bodyOf (map k))) ks) (row-bytes k from (length (bodyOf (map k))) (f k (rw (key-refl k))))
-      (rows-bytes ks (λ j t. f j (rw t (or-true (sameKey k j)))) (from + length (bodyOf (map k))))
+row-bytes : (form : ℕ) (k : Key) (e at n : ℕ) → InBytes k → Bytes (rowBytes form k e at n)
+unfolding rowBytes fullRow
+row-bytes form k e at n b =
+    bytes-first (rowSize form) _ (b .source, (b .destination, (b .number, (omega arith, (omega arith, (omega arith, (omega arith, (one, tt))))))))
+  where
+    one : editionByte e < 256
+    one = test (eqb e 2004) (λ y. rw y (omega arith)) (λ f. rw f (omega arith))
 
-  bodies-bytes : (ks : List Key) → Bytes (bodiesOf map ks)
-  unfolding bodiesOf
-  bodies-bytes [] = tt
-  bodies-bytes (k ∷ ks) = both (bodyOf (map k)) (bodiesOf map ks) (map-bytes (map k)) (bodies-bytes ks)
+bodies-bytes : (map : Key → Map) (ks : List Key) → Bytes (bodiesOf map ks)
+unfolding bodiesOf
+bodies-bytes map [] = tt
+bodies-bytes map (k ∷ ks) = both (bodyOf (map k)) (bodiesOf map ks) (map-bytes (map k)) (bodies-bytes map ks)
 
-pub image-bytes : (t : List ℕ) → Bytes (imageOf t)
-unfolding imageOf imageFrom
-image-bytes t = (
-  omega arith,
+rows-bytes : (form : ℕ) (edition : Key → ℕ) (map : Key → Map) (ks : List Key) → ((k : Key) → has k ks ≡ true → InBytes k) → (from : ℕ) → Bytes (rowsOf form edition map from ks)
+unfolding rowsOf
+rows-bytes form edition map [] f from = tt
+rows-bytes form edition map (k ∷ ks) f from =
+    both (rowBytes form k (edition k) from (length (bodyOf (map k)))) (rowsOf form edition map (from + length (bodyOf (map k))) ks)
+    (row-bytes form k (edition k) from (length (bodyOf (map k))) (f k (rw (key-refl k))))
+    (rows-bytes form edition map ks (λ j t. f j (rw t (or-true (sameKey k j)))) (from + length (bodyOf (map k))))
+
+pub image-bytes : (form : ℕ) → form < 256 → (t : List ℕ) → Bytes (imageIn form t)
+unfolding imageIn imageFrom
+image-bytes form small t = (
+  small,
   (
     omega (arith, few-saved t),
-    both (rowsOf (mapIn t) (behind (length (savedKeys t))) (savedKeys t)) (bodiesOf (mapIn t) (savedKeys t))
-        (rows-bytes (mapIn t) (savedKeys t) (saved-bytes t) (behind (length (savedKeys t)))) (bodies-bytes (mapIn t) (savedKeys t)),
+    both (rowsOf form (editionIn t) (mapIn t) (behind form (length (savedKeys t))) (savedKeys t)) (bodiesOf (mapIn t) (savedKeys t))
+        (rows-bytes form (editionIn t) (mapIn t) (savedKeys t) (saved-bytes t) (behind form (length (savedKeys t)))) (bodies-bytes (mapIn t) (savedKeys t)),
   ),
 )

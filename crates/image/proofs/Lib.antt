@@ -3,6 +3,8 @@ pub mod Parse
 -- What frames can say of a map.
 pub mod Sayable
 pub mod Members
+-- Editions after messages.
+pub mod Editions
 -- Some of a list's keys, and images of the same maps.
 pub mod Chosen
 -- The round trip, and the law of damage over histories.

@@ -13,7 +13,6 @@ use Rattle.message.specs.declared.Key.{Key}
 use Rattle.message.specs.declared.Head.{Head}
 use Rattle.message.specs.declared.Place.{Place}
 use Rattle.message.specs.declared.Message.{Message}
-use Rattle.message.specs.Message.{heard}
 use Rattle.maps.specs.Maps.{Map, Nothing, Conflict, Held, mapOf, IsMap, Says, sameKey}
 use Rattle.maps.proofs.Tests.{key-eq, key-refl}
 use Rattle.maps.proofs.Maps.{is-map, unique}
@@ -214,9 +213,12 @@ keys-in (m ∷ ms) ks f k t =
     (λ e. test (sameKey (m .key) k) (λ s. rw (sym (key-eq (m .key) k s)) (f m (List·Memᴰ·head refl))) (λ n. keys-in ms ks (λ x i. f x (List·Memᴰ·tail i)) k (rw (e, n) at t)))
     (λ e. keys-in ms ks (λ x i. f x (List·Memᴰ·tail i)) k (rw e at t))
 
+pub few-listed : (ms : List Message) (ks : List Key) → Once ks → ((m : Message) → List·Memᴰ m ms → has (m .key) ks ≡ true) → length (keys (learnAll ms)) ≤ length ks
+few-listed ms ks o f = sub-count (keys (learnAll ms)) ks (keys-once (learnAll ms)) o (keys-in ms ks f)
+
 pub few : (ms : List Message) (ks : List Key) → Once ks → length ks ≤ mostKeys → ((m : Message) → List·Memᴰ m ms → has (m .key) ks ≡ true) → Few (learnAll ms)
 few [] ks o l f = tt
 few (m ∷ ms) ks o l f = (
-  omega (arith, l, sub-count (keys (learnAll (m ∷ ms))) ks (keys-once (learnAll (m ∷ ms))) o (keys-in (m ∷ ms) ks f)),
+  omega (arith, l, few-listed (m ∷ ms) ks o f),
   few ms ks o l (λ x i. f x (List·Memᴰ·tail i)),
 )

@@ -1,24 +1,27 @@
--- Reading a written image gives the messages of its keys back. Assumes nothing.
+-- Reading a written image gives the messages of its keys back, and their editions. Assumes nothing.
 use Prim.Native.Nat.{ℕ, zero, suc, _+_, _*_, _%_, _≤_, _<_}
 use native.Mathlib.Omega.{arith}
-use native.Mathlib.Nat.{mod-eq-of-lt}
+use native.Mathlib.Nat.{mod-eq-of-lt, mul-zero, mul-suc}
 use mathlib.Core.Path.{_≡_, refl, sym, ap, _∙_}
+use mathlib.Core.Bool.{cond}
 use mathlib.Core.Option.{Option}
 use mathlib.Core.List.{List, [], _∷_, _++_, append-assoc}
-use lib.ListN.{length, getD, length-append}
-use lib.Seq.{getD-append-add}
+use lib.Dec.{eqb}
+use lib.ListN.{length, getD, take, length-append, List·getD-append}
+use lib.Seq.{getD-append-add, getD-take}
+use Rattle.words.proofs.Tests.{test}
 use Rattle.message.specs.declared.Key.{Key}
 use Rattle.message.specs.declared.Head.{Head}
 use Rattle.message.specs.declared.Place.{Place}
 use Rattle.message.specs.declared.Message.{Message}
 use Rattle.message.specs.Message.{heard}
 use Rattle.maps.specs.Maps.{Map, Nothing, Conflict, Held}
-use Rattle.history.specs.History.{Event}
+use Rattle.history.specs.History.{Event, Edition}
 use Rattle.history.specs.Frames.{learns}
 use Rattle.written.specs.Written.{idOf, flag, headByte, fiveOf, dataOf}
 use Rattle.written.proofs.Written.{flag-rest}
-use Rattle.image.specs.Write.{placeOr, bodyFrom, bodyOf, rowBytes, behind, rowsOf, bodiesOf, imageFrom}
-use Rattle.image.specs.Read.{keyAt, heardAt, bodyEvents, countAt, rowEvents, eventsOf}
+use Rattle.image.specs.Write.{placeOr, bodyFrom, bodyOf, editionByte, fullRow, rowSize, rowBytes, behind, rowsOf, bodiesOf, imageFrom}
+use Rattle.image.specs.Read.{keyAt, heardAt, bodyEvents, countAt, rowEvents, formOf, toldBy, editionAt, rowEditions, eventsOf}
 
 -- ---- the messages of a map, and what their frames say
 
@@ -114,47 +117,126 @@ map-is k (Held h places) u l pre rest p ms e f =
 
 -- ---- the rows
 
-pub length-row : (k : Key) (p n : ℕ) → length (rowBytes k p n) ≡ 7
+-- a row has so many bytes in a form, and its first seven in every form
+pub length-row : (form : ℕ) (k : Key) (e p n : ℕ) → length (rowBytes form k e p n) ≡ rowSize form
+unfolding rowBytes fullRow
+length-row form k e p n = test (eqb form 1) (λ y. rw y) (λ f. rw f)
+
+pub row-byte : (form : ℕ) (k : Key) (e p n : ℕ) (rest : List ℕ) (i : ℕ) → i < 7 → getD (rowBytes form k e p n ++ rest) i 0 ≡ getD (fullRow k e p n) i 0
 unfolding rowBytes
-length-row k p n = refl
+row-byte form k e p n rest i h =
+    let w : 7 ≤ rowSize form = test (eqb form 1) (λ y. rw y (omega arith)) (λ f. rw f (omega arith)) in
+    List·getD-append (take (rowSize form) (fullRow k e p n)) rest 0 i (omega (arith, row-long, w)) ∙ getD-take (rowSize form) (fullRow k e p n) i 0 (omega arith)
+  where
+    row-long : length (take (rowSize form) (fullRow k e p n)) ≡ rowSize form
+    row-long = length-row form k e p n
 
-pub key-is : (k : Key) (from len : ℕ) (l pre rest : List ℕ) (r : ℕ) → length pre ≡ r → l ≡ pre ++ (rowBytes k from len ++ rest) → keyAt l r ≡ k
-unfolding rowBytes
-key-is k from len l pre rest r e f =
-    let x = rowBytes k from len ++ rest in
-    rw (f, at₀ pre x r e, at pre x r 1 e, at pre x r 2 e)
+-- in form 2 the eighth is the edition's
+pub edition-byte : (k : Key) (e p n : ℕ) (rest : List ℕ) → getD (rowBytes 2 k e p n ++ rest) 7 0 ≡ editionByte e
+unfolding rowBytes fullRow
+edition-byte k e p n rest = refl
 
-module _ (map : Key → Map) where
-  abbrev pub AllTold : List Key → Type 0
-  AllTold [] = Unit {0}
-  AllTold (k ∷ ks) = Told (map k) × AllTold ks
+module _ (form : ℕ) (k : Key) (e from len : ℕ) (l pre rest : List ℕ) (r : ℕ) (long : length pre ≡ r) (f : l ≡ pre ++ (rowBytes form k e from len ++ rest)) where
+  -- byte i of a row that lies behind others
+  pub byte-is : (i : ℕ) → i < 7 → getD l (r + i) 0 ≡ getD (fullRow k e from len) i 0
+  byte-is i h = ap (λ (x : List ℕ). getD x (r + i) 0) f ∙ at pre (rowBytes form k e from len ++ rest) r i long ∙ row-byte form k e from len rest i h
 
-  pub length-rows : (from : ℕ) (ks : List Key) → length (rowsOf map from ks) ≡ 7 * length ks
+  pub key-is : keyAt l r ≡ k
+  unfolding fullRow
+  key-is =
+      let z : r ≡ r + 0 = omega arith in
+      let a = ap (λ (q : ℕ). getD l q 0) z ∙ byte-is 0 (omega arith) in
+      let b = byte-is 1 (omega arith) in
+      let c = byte-is 2 (omega arith) in
+      λ i. record { source = a i; destination = b i; k = c i }
+
+abbrev pub AllTold : (Key → Map) → List Key → Type 0
+AllTold map [] = Unit {0}
+AllTold map (k ∷ ks) = Told (map k) × AllTold map ks
+
+-- an image is read in the form that it was written in
+abbrev pub Form : ℕ → Type 0
+Form form = cond (eqb form 1) 1 2 ≡ form
+
+-- any bytes have one of the two
+pub form-two : (l : List ℕ) → Form (formOf l)
+form-two l = test (eqb (getD l 0 0) 1) (λ y. rw y) (λ n. rw n)
+
+module _ (form : ℕ) (edition : Key → ℕ) (map : Key → Map) where
+  abbrev w : ℕ
+  w = rowSize form
+
+  pub length-rows : (from : ℕ) (ks : List Key) → length (rowsOf form edition map from ks) ≡ rowSize form * length ks
   unfolding rowsOf
-  length-rows from [] = refl
-  length-rows from (k ∷ ks) = let ih = length-rows (from + length (bodyOf (map k))) ks in simp (length-append, length-row) (omega arith)
+  length-rows from [] = omega (arith, mul-zero w)
+  length-rows from (k ∷ ks) =
+      let ih = length-rows (from + length (bodyOf (map k))) ks in
+      length-append (rowBytes form k (edition k) from (length (bodyOf (map k)))) (rowsOf form edition map (from + length (bodyOf (map k))) ks)
+      ∙ omega (arith, length-row form k (edition k) from (length (bodyOf (map k))), ih, mul-suc w (length ks))
 
-  rows-is : (l : List ℕ) (ks : List Key) → AllTold ks → (from r p : ℕ) (pre mid : List ℕ) (ms : List Message)
-      → l ≡ pre ++ (rowsOf map from ks ++ (mid ++ bodiesOf map ks)) → length pre ≡ r → p ≡ r + 7 * length ks + length mid
-      → rowEvents l r p (length ks) (saidByAll ms) ≡ saidByAll (keyMessages map ks ms)
+  rows-is : (l : List ℕ) (ks : List Key) → AllTold map ks → (from r p : ℕ) (pre mid : List ℕ) (ms : List Message)
+      → l ≡ pre ++ (rowsOf form edition map from ks ++ (mid ++ bodiesOf map ks)) → length pre ≡ r → p ≡ r + w * length ks + length mid
+      → rowEvents w l r p (length ks) (saidByAll ms) ≡ saidByAll (keyMessages map ks ms)
   unfolding rowsOf bodiesOf rowEvents keyMessages
   rows-is l [] u from r p pre mid ms f e q = refl
   rows-is l (k ∷ ks) u from r p pre mid ms f e q =
-      let row = rowBytes k from (length (bodyOf (map k))) in
-      let rows = rowsOf map (from + length (bodyOf (map k))) ks in
+      let n = length (bodyOf (map k)) in
+      let row = rowBytes form k (edition k) from n in
+      let rows = rowsOf form edition map (from + n) ks in
+      let a = length-row form k (edition k) from n in
+      let b = length-rows (from + n) ks in
+      let c = mul-suc w (length ks) in
       let g : l ≡ pre ++ (row ++ (rows ++ (mid ++ (bodyOf (map k) ++ bodiesOf map ks)))) = f ∙ simp append-assoc in
       let g′ : l ≡ (pre ++ (row ++ (rows ++ mid))) ++ (bodyOf (map k) ++ bodiesOf map ks) = g ∙ simp append-assoc in
-      let w : length (pre ++ (row ++ (rows ++ mid))) ≡ p = simp (length-append, length-row, length-rows) (omega arith) in
-      let (c, b) = map-is k (map k) (u .0) l (pre ++ (row ++ (rows ++ mid))) (bodiesOf map ks) p ms w g′ in
-      ap (λ (x : Key). rowEvents l (r + 7) (p + 5 * countAt l p) (length ks) (bodyEvents l x p (countAt l p) (saidByAll ms)))
-      (key-is k from (length (bodyOf (map k))) l pre (rows ++ (mid ++ (bodyOf (map k) ++ bodiesOf map ks))) r e g)
-      ∙ ap (λ (es : List Event). rowEvents l (r + 7) (p + 5 * countAt l p) (length ks) es) b
-      ∙ ap (λ (n : ℕ). rowEvents l (r + 7) (p + n) (length ks) (saidByAll (mapMessages k (map k) ms))) c
-      ∙ (rows-is l ks (u .1) (from + length (bodyOf (map k))) (r + 7) (p + length (bodyOf (map k))) (pre ++ row) (mid ++ bodyOf (map k)) (mapMessages k (map k) ms)
-      (g ∙ simp append-assoc) (simp (length-append, length-row) (omega arith)) (simp length-append (omega arith)))
+      let long : length (pre ++ (row ++ (rows ++ mid))) ≡ p = simp length-append (omega (arith, a, b, c, e, q)) in
+      let (d, s) = map-is k (map k) (u .0) l (pre ++ (row ++ (rows ++ mid))) (bodiesOf map ks) p ms long g′ in
+      ap (λ (x : Key). rowEvents w l (r + w) (p + 5 * countAt l p) (length ks) (bodyEvents l x p (countAt l p) (saidByAll ms)))
+      (key-is form k (edition k) from n l pre (rows ++ (mid ++ (bodyOf (map k) ++ bodiesOf map ks))) r e g)
+      ∙ ap (λ (es : List Event). rowEvents w l (r + w) (p + 5 * countAt l p) (length ks) es) s
+      ∙ ap (λ (m : ℕ). rowEvents w l (r + w) (p + m) (length ks) (saidByAll (mapMessages k (map k) ms))) d
+      ∙ (rows-is l ks (u .1) (from + n) (r + w) (p + n) (pre ++ row) (mid ++ bodyOf (map k)) (mapMessages k (map k) ms)
+      (g ∙ simp append-assoc) (simp length-append (omega (arith, a, e))) (simp length-append (omega (arith, c, q))))
 
   -- an image that is written stands for the messages of its keys, as their frames say them
-  pub parsed : (ks : List Key) → AllTold ks → eventsOf (imageFrom map ks) ≡ saidByAll (keyMessages map ks [])
+  pub parsed : Form form → (ks : List Key) → AllTold map ks → toldBy (imageFrom form edition map ks) ≡ saidByAll (keyMessages map ks [])
+  unfolding toldBy imageFrom
+  parsed is ks u =
+      rw is
+      (rows-is (imageFrom form edition map ks) ks u (behind form (length ks)) 2 (behind form (length ks)) (form ∷ length ks ∷ []) [] [] refl refl (omega arith))
+
+-- ---- the editions of form 2
+
+-- keys given an edition each, after what came before; the latest first
+unfoldable pub editedAll : (Key → ℕ) → List Key → List Event → List Event
+editedAll edition [] h = h
+editedAll edition (k ∷ ks) h = editedAll edition ks (Edition k (edition k) ∷ h)
+
+-- what the byte says is the edition
+pub edition-is : (l : List ℕ) (k : Key) (e from len : ℕ) (pre rest : List ℕ) (r : ℕ) → length pre ≡ r → l ≡ pre ++ (rowBytes 2 k e from len ++ rest) → cond (eqb e 2004) 2004 2010 ≡ e → editionAt l r ≡ e
+edition-is l k e from len pre rest r long f two =
+    ap (λ (x : List ℕ). cond (eqb (getD x (r + 7) 0) 1) 2004 2010) f
+    ∙ ap (λ (x : ℕ). cond (eqb x 1) 2004 2010) (at pre (rowBytes 2 k e from len ++ rest) r 7 long ∙ edition-byte k e from len rest) ∙ read-back ∙ two
+  where
+    read-back : _≡_ {A = ℕ} (cond (eqb (editionByte e) 1) 2004 2010) (cond (eqb e 2004) 2004 2010)
+    read-back = test (eqb e 2004) (λ y. rw y) (λ n. rw n)
+
+module _ (edition : Key → ℕ) (two : (k : Key) → cond (eqb (edition k) 2004) 2004 2010 ≡ edition k) (map : Key → Map) where
+  editions-is : (l : List ℕ) (ks : List Key) (from r : ℕ) (pre rest : List ℕ) → l ≡ pre ++ (rowsOf 2 edition map from ks ++ rest) → length pre ≡ r
+      → (h : List Event) → rowEditions l r (length ks) h ≡ editedAll edition ks h
+  unfolding rowsOf rowEditions editedAll
+  editions-is l [] from r pre rest f e h = refl
+  editions-is l (k ∷ ks) from r pre rest f e h =
+      let n = length (bodyOf (map k)) in
+      let row = rowBytes 2 k (edition k) from n in
+      let g : l ≡ pre ++ (row ++ (rowsOf 2 edition map (from + n) ks ++ rest)) = f ∙ simp append-assoc in
+      let tail = rowsOf 2 edition map (from + n) ks ++ rest in
+      let q = edition-is l k (edition k) from n pre tail r e g (two k) in
+      (λ i. rowEditions l (r + 8) (length ks) (Edition (key-is 2 k (edition k) from n l pre tail r e g i) (q i) ∷ h))
+      ∙ editions-is l ks (from + n) (r + 8) (pre ++ row) rest (g ∙ simp append-assoc) (simp length-append (omega (arith, length-row 2 k (edition k) from n, e))) (Edition k (edition k) ∷ h)
+
+  -- an image of form 2 stands for the messages of its keys, and for their editions
+  pub parsed-editions : (ks : List Key) → AllTold map ks → eventsOf (imageFrom 2 edition map ks) ≡ editedAll edition ks (saidByAll (keyMessages map ks []))
   unfolding eventsOf imageFrom
-  parsed ks u =
-      rows-is (imageFrom map ks) ks u (behind (length ks)) 2 (2 + 7 * length ks) (1 ∷ length ks ∷ []) [] [] refl refl (omega arith)
+  parsed-editions ks u =
+      editions-is (imageFrom 2 edition map ks) ks (behind 2 (length ks)) 2 (2 ∷ length ks ∷ []) (bodiesOf map ks) refl refl (toldBy (imageFrom 2 edition map ks))
+      ∙ ap (editedAll edition ks) (parsed 2 edition map refl ks u)

@@ -1,11 +1,11 @@
--- Asking an image (02, Req 01): for a row by its number, from 0 on, and for a key. Any bytes may be asked. "asking for a key hands back that key's body as a part of
+-- Asking an image of either form (02, Req 01 and 10): for a row by its number, from 0 on, and for a key. Any bytes may be asked. "asking for a key hands back that key's body as a part of
 -- the image itself, an empty part on a refusal; a plain call beside it gives the number".
 -- Assumes nothing.
 use Prim.Native.Nat.{ℕ, _+_, _*_, _^_}
 use mathlib.Core.Path.{_≡_}
 use mathlib.Core.Bool.{Bool, cond, not, _&&_}
 use mathlib.Core.List.{List, [], _∷_}
-use lib.Dec.{leb, ltb}
+use lib.Dec.{eqb, leb, ltb}
 use lib.ListN.{length, getD, take, drop}
 use denote.Ref.{RefT, now}
 use Rattle.words.specs.First.{first}
@@ -15,9 +15,12 @@ use Rattle.message.specs.declared.Key.{Key}
 use Rattle.maps.specs.Maps.{sameKey}
 use Rattle.keyrow.specs.Row.{keyOf}
 use Rattle.image.specs.Write.{behind}
-use Rattle.image.specs.Read.{keyAt, rowCount, good}
+use Rattle.image.specs.Read.{keyAt, rowCount, formOf, editionAt, good}
 
--- ---- what a row says; row i stands at byte `behind i`
+-- ---- what a row says; row i stands at byte `rowPlace l i`
+
+abbrev pub rowPlace : List ℕ → ℕ → ℕ
+rowPlace l i = behind (formOf l) i
 
 -- where its body begins, and how long it is
 abbrev pub offAt : List ℕ → ℕ → ℕ
@@ -41,14 +44,18 @@ hasRow l i = good l && ltb i (rowCount l)
 
 -- its key, all 0 on a refusal (no key has k 0)
 unfoldable pub rowKey : List ℕ → ℕ → Key
-rowKey l i = cond (hasRow l i) (keyAt l (behind i)) (keyOf 0 0 0)
+rowKey l i = cond (hasRow l i) (keyAt l (rowPlace l i)) (keyOf 0 0 0)
+
+-- its edition, which is 2010 in every row of form 1; 0 on a refusal
+unfoldable pub rowEdition : List ℕ → ℕ → ℕ
+rowEdition l i = cond (hasRow l i) (cond (eqb (formOf l) 1) 2010 (editionAt l (rowPlace l i))) 0
 
 -- its body, and the byte of the image at which it begins; nothing, at byte 0, on a refusal
 unfoldable pub rowBody : List ℕ → ℕ → List ℕ
-rowBody l i = cond (hasRow l i) (take (lenAt l (behind i)) (drop (offAt l (behind i)) l)) []
+rowBody l i = cond (hasRow l i) (take (lenAt l (rowPlace l i)) (drop (offAt l (rowPlace l i)) l)) []
 
 unfoldable pub rowOffset : List ℕ → ℕ → ℕ
-rowOffset l i = cond (hasRow l i) (offAt l (behind i)) 0
+rowOffset l i = cond (hasRow l i) (offAt l (rowPlace l i)) 0
 
 -- the number of the row after it; behind the last row there is none, and the number stays
 unfoldable pub rowNext : List ℕ → ℕ → ℕ
@@ -60,15 +67,16 @@ pub record Entry : Type 0 where
   pub key : Key
   pub offset : ℕ
   pub size : ℕ
+  pub edition : ℕ
 
 abbrev pub rowEntry : List ℕ → ℕ → Entry
-rowEntry l i = record { answer = rowAsked l i; key = rowKey l i; offset = rowOffset l i; size = length (rowBody l i) }
+rowEntry l i = record { answer = rowAsked l i; key = rowKey l i; offset = rowOffset l i; size = length (rowBody l i); edition = rowEdition l i }
 
 -- ---- a row by its key
 
 -- the lowest row that has the key; the number of rows where none has, so that no row has this number
 unfoldable pub rowWith : List ℕ → Key → ℕ
-rowWith l k = first (λ i. sameKey (keyAt l (behind i)) k) (rowCount l)
+rowWith l k = first (λ i. sameKey (keyAt l (rowPlace l i)) k) (rowCount l)
 
 -- ---- a part of a slice
 

@@ -5,9 +5,10 @@
 //   1 identifier, length, 8 bytes    learns; no line
 //   2 key                            forgets; no line
 //   3, and a buffer                  saves into it: number, detail, the size of the image, the whole buffer
-//   4, and an image                  loads it: number; source, destination, k, n, judgement and position of each key that is held then
-//   5 key, and an image              asks it for the key: number, offset, length, the body
-//   6 row of 8 bytes, and an image   asks it for the row: number, source, destination, k, offset, length, the body
+//   4, and an image                  loads it: number; source, destination, k, n, judgement, position and edition of each key that is held then
+//   5 key, and an image              asks it for the key: number, offset, length, edition, the body
+//   6 row of 8 bytes, and an image   asks it for the row: number, source, destination, k, offset, length, edition, the body
+//   7 key, edition                   gives the key that edition; no line
 use libc::STDIN_FILENO;
 use lines::bytes;
 use lines::end;
@@ -30,7 +31,7 @@ fn saved(t: &[u64; WORDS], out: &mut [u8]) {
     end();
 }
 
-// A key as the listing has it.
+// A key as the listing has it, and its edition.
 fn judged(t: &[u64; WORDS], key: Key) {
     let a = ask::judge(t, key.source, key.destination, key.k);
     let j = a.judgement;
@@ -40,6 +41,7 @@ fn judged(t: &[u64; WORDS], key: Key) {
     more(ask::count(t, key.source, key.destination, key.k) as u32);
     more(answers::number_of(j) as u32);
     more(answers::position_of(j) as u32);
+    more(lookup::edition_of(t, key.source, key.destination, key.k));
 }
 
 // The key, where there is one, and the next.
@@ -72,6 +74,7 @@ fn asked(image: &[u8], source: u8, destination: u8, k: u8) {
     first(a.number);
     long(listed.offset as u64);
     long(listed.size as u64);
+    more(listed.edition);
     bytes(contents::body(image, source, destination, k));
     end();
 }
@@ -86,6 +89,7 @@ fn row(image: &[u8], i: usize) {
     more(key.k as u32);
     long(listed.offset as u64);
     long(listed.size as u64);
+    more(listed.edition);
     bytes(contents::row_body(image, i));
     end();
 }
@@ -119,6 +123,9 @@ fn run(t: &mut [u64; WORDS], b: &[u8; 16]) {
         }
         2 => {
             table::forget(t, b[1], b[2], b[3]);
+        }
+        7 => {
+            edition::set_edition(t, b[1], b[2], b[3], four(b[4], b[5], b[6], b[7]));
         }
         _ => {
             let mut buffer = io::buffer();

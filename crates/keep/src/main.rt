@@ -6,7 +6,7 @@ use lookup::WORDS;
 
 // As many bytes as the buffer has, at most.
 fn within(n: usize) -> usize
-    ensures { λ r. ⌜ r ≤ 2594 ⌝ }
+    ensures { λ r. ⌜ r ≤ 2610 ⌝ }
 {
     if n < save::MOST { n } else { save::MOST }
 }

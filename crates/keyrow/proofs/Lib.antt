@@ -1,2 +1,3 @@
 pub mod RowKeys
 pub mod View
+pub mod Edition

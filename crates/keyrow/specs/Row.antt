@@ -1,6 +1,6 @@
 -- One row of the learned table, the words of a key. Every definition is total, on any list of words.
--- Of a row: word 0 its state (0 free, 1 held, any other: in conflict), word 1 the key's number, word 2 the form (n and the two flags, in its low ten bits),
--- word 2 + p the cell of position p (0 nothing, else SPN and start).
+-- Of a row: word 0 its state (0 free, 1 held, any other: in conflict), word 1 the key's number, word 2 the form (n and the two flags, in its low ten bits,
+-- and in the next bit the edition; the bits above say nothing), word 2 + p the cell of position p (0 nothing, else SPN and start).
 -- Assumes nothing.
 use Prim.Native.Nat.{ℕ, _+_, _*_, _/_, _%_, _^_, _≤_, _<_}
 use mathlib.Core.Bool.{Bool, cond, not, _&&_}

@@ -1,10 +1,11 @@
 -- What a row says, as a map: total on any words, also on those that no run of calls produces.
 -- Assumes nothing.
-use Prim.Native.Nat.{ℕ, _-_, _/_, _%_, _^_}
+use Prim.Native.Nat.{ℕ, _+_, _-_, _*_, _/_, _%_, _^_}
 use mathlib.Core.Bool.{cond, _&&_}
 use mathlib.Core.Option.{Option, none, some}
 use mathlib.Core.List.{List}
 use lib.Dec.{eqb, leb}
+use lib.ListN.{set}
 use Rattle.message.specs.declared.Head.{Head}
 use Rattle.message.specs.declared.Place.{Place}
 use Rattle.maps.specs.Maps.{Map, Conflict, Held}
@@ -13,6 +14,17 @@ use Rattle.keyrow.specs.Row.{positions, stateWord, formWord, cellWord}
 -- n and the flags of a form
 abbrev pub headOf : ℕ → Head
 headOf form = record { n = form % 2 ^ 8; proprietary = eqb (form / 2 ^ 8 % 2) 1; transport = eqb (form / 2 ^ 9 % 2) 1 }
+
+-- the edition of a form: its bit 10, 1 for 2004 ("give each key an edition, held in its record": 02, Req 10)
+abbrev pub formEdition : ℕ → ℕ
+formEdition form = cond (eqb (form / 2 ^ 10 % 2) 1) 2004 2010
+
+-- a form with another edition, and the words of its row: every other bit and word stay
+abbrev pub withEdition : ℕ → ℕ → ℕ
+withEdition form edition = cond (eqb edition 2004) (form - form / 2 ^ 10 % 2 * 2 ^ 10 + 2 ^ 10) (form - form / 2 ^ 10 % 2 * 2 ^ 10)
+
+unfoldable pub editedRow : List ℕ → ℕ → List ℕ
+editedRow r edition = set r 2 (withEdition (formWord r) edition)
 
 -- SPN and start of a cell
 abbrev pub placeOf : ℕ → Option Place

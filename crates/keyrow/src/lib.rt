@@ -7,7 +7,7 @@ ghost use lib.ListN.{length, getD, set, replicate};
 ghost use Rattle.answers.specs.Answers.{plain, outcome};
 ghost use Rattle.keyrow.specs.Row.{keyOf, keyNumber, oneIf, formNumber, cellOf, wordsAre};
 ghost use Rattle.keyrow.specs.Learn.{numbersFit, learnNumbers, firstNumbers};
-ghost use Rattle.keyrow.specs.View.{headOf, placeOf, spnThere, startThere};
+ghost use Rattle.keyrow.specs.View.{headOf, formEdition, withEdition, placeOf, spnThere, startThere};
 use message::Head;
 
 // The words of a row: state, key, form, and from CELLS on a cell for each of 64 positions; that of position p is at FORM + p.
@@ -29,6 +29,13 @@ pub const FREE: u64 = 0;
 pub const HELD: u64 = 1;
 
 const IN_CONFLICT: u64 = 2;
+
+// The two editions of the dictionary: a key has one of them. In a form bit 10 is 1 for that of 2004.
+pub const EDITION_2004: u32 = 2004;
+
+pub const EDITION_2010: u32 = 2010;
+
+const EDITION_BIT: u64 = 1024;
 
 // ---- numbers of a message
 
@@ -70,6 +77,27 @@ pub fn head_of(form: u64) -> Head
         proprietary: form / 256 % 2 == 1,
         transport: form / 512 % 2 == 1,
     }
+}
+
+// The edition of a form.
+pub fn edition_of(form: u64) -> u32
+    ensures { λ r. ⌜ r ≡ formEdition form ⌝ }
+{
+    if form / EDITION_BIT % 2 == 1 {
+        return EDITION_2004;
+    }
+    EDITION_2010
+}
+
+// A form with another edition: every other bit stays.
+pub fn with_edition(form: u64, edition: u32) -> u64
+    ensures { λ r. ⌜ r ≡ withEdition form edition ⌝ }
+{
+    let bare = form - form / EDITION_BIT % 2 * EDITION_BIT;
+    if edition == EDITION_2004 {
+        return bare + EDITION_BIT;
+    }
+    bare
 }
 
 // The SPN of a cell, 0 where nothing stands there.

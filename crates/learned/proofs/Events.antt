@@ -13,30 +13,35 @@ use Rattle.maps.specs.Maps.{sameKey, learned, isNothing}
 use Rattle.words.proofs.Tests.{test, never}
 use Rattle.maps.proofs.Tests.{key-eq, key-refl}
 use Rattle.answers.specs.Answers.{plain}
-use Rattle.history.specs.History.{mostKeys, Event, Learn, Forget, names}
+use Rattle.history.specs.History.{mostKeys, Event, Learn, Forget, Edition, names, isEdition}
 use Rattle.history.specs.Table.{full, number, after}
-use Rattle.history.proofs.Demand.{nine-if-full, never-nine, isolated}
+use Rattle.history.proofs.Demand.{nine-if-full, never-nine, edition-nine, isolated}
 use Rattle.lookup.specs.Layout.{tableWords, rowOf, slotOf, freeSlot}
 use Rattle.keyrow.specs.Row.{keyNumber, InBytes, InRow}
 use Rattle.lookup.specs.View.{mapIn}
 use Rattle.table.specs.Learn.{learnMessage}
 use Rattle.table.specs.Forget.{forgotten}
+use Rattle.edition.specs.Edition.{edited}
+use Rattle.edition.proofs.Edited.{no-edition, not-held as unheld, into-row}
 use Rattle.learned.specs.Events.{event, InWords}
 use Rattle.learned.proofs.View.{map-at, map-none}
 use Rattle.keyrow.proofs.View.{row-something}
 use Rattle.learned.proofs.Learning.{into-free, no-room, learn-length, learn-row, learn-new, row-answer, learn-other}
 use Rattle.learned.proofs.Forgetting.{held-before, not-held, forget-length, forget-own, forget-other}
+use Rattle.learned.proofs.Editing.{edit-length, edit-map}
 use Rattle.learned.proofs.KeyNumbers.{same-number, inBytes, bytes-yes, yes-bytes}
-use Rattle.learned.proofs.Sane.{Sane, sane-learn, sane-forget}
+use Rattle.learned.proofs.Sane.{Sane, sane-learn, sane-forget, sane-edit}
 use Rattle.learned.proofs.Count.{all-used, some-free, tableOf}
 
 pub sane-event : (t : List ℕ) → Sane t → (e : Event) → InWords e → Sane (event t e .memory)
 sane-event t s (Learn m) f = sane-learn t s m (f .key)
 sane-event t s (Forget k) f = sane-forget t s (keyNumber k)
+sane-event t s (Edition k e) f = sane-edit t s (keyNumber k) e
 
 pub event-length : (t : List ℕ) → length t ≡ tableWords → (e : Event) → length (event t e .memory) ≡ tableWords
 event-length t long (Learn m) = learn-length t long m
 event-length t long (Forget k) = forget-length t long (keyNumber k)
+event-length t long (Edition k e) = edit-length t long (keyNumber k) e
 
 -- ---- what the table has of a key that a call can name
 
@@ -44,7 +49,7 @@ pub looks : (t : List ℕ) (k : Key) → InBytes k → tableOf t .look k ≡ map
 looks t k b = rw (yes-bytes k b)
 
 -- another key has another number
-other : (j k : Key) → InBytes j → InBytes k → sameKey j k ≡ false → keyNumber j ≡ keyNumber k → ⊥
+pub other : (j k : Key) → InBytes j → InBytes k → sameKey j k ≡ false → keyNumber j ≡ keyNumber k → ⊥
 other j k p q n e = never (ap (sameKey j) (sym (same-number j k p q e)) ∙ key-refl j) n
 
 -- ---- room
@@ -108,15 +113,32 @@ module _ (t : List ℕ) (long : length t ≡ tableWords) (k : Key) (b : InBytes 
       go (yes h) = rw (held-before t (keyNumber k) h, yes-bytes k b, map-at t k h, row-something (rowOf t (slotOf t (keyNumber k))))
       go (no h) = rw (not-held t (keyNumber k) (omega arith), yes-bytes k b, map-none t k (omega arith))
 
+-- ---- another edition
+
+module _ (t : List ℕ) (long : length t ≡ tableWords) (k : Key) (b : InBytes k) (e : ℕ) where
+  edit-after : (j : Key) → tableOf (edited t (keyNumber k) e .memory) .look j ≡ after (tableOf t) (Edition k e) j
+  edit-after j = rw (edition-nine (tableOf t) k e, edit-map t long (keyNumber k) e j) (test (sameKey k j) (λ y. rw y) (λ n. rw n))
+
+  edit-answer : edited t (keyNumber k) e .answer ≡ plain (number (tableOf t) (Edition k e))
+  edit-answer = go (decLt (slotOf t (keyNumber k)) mostKeys)
+    where
+      go : Dec (slotOf t (keyNumber k) < mostKeys) → edited t (keyNumber k) e .answer ≡ plain (number (tableOf t) (Edition k e))
+      go (yes h) =
+          rw (yes-bytes k b, map-at t k h, row-something (rowOf t (slotOf t (keyNumber k))))
+          (test (isEdition e) (λ y. rw (into-row t (keyNumber k) e h y, y)) (λ n. rw (no-edition t (keyNumber k) e h n, n)))
+      go (no h) = rw (unheld t (keyNumber k) e (omega arith), yes-bytes k b, map-none t k (omega arith))
+
 -- ---- any event
 
 pub event-after : (t : List ℕ) → length t ≡ tableWords → (e : Event) → InWords e → (k : Key) → tableOf (event t e .memory) .look k ≡ after (tableOf t) e k
 event-after t long (Learn m) f = learn-after t long m (f .key) (f .row)
 event-after t long (Forget k) f = forget-after t long k (f .key)
+event-after t long (Edition k e) f = edit-after t long k (f .key) e
 
 pub event-answer : (t : List ℕ) → length t ≡ tableWords → (e : Event) → InWords e → event t e .answer ≡ plain (number (tableOf t) e)
 event-answer t long (Learn m) f = learn-answer t long m (f .key) (f .row)
 event-answer t long (Forget k) f = forget-answer t long k (f .key)
+event-answer t long (Edition k e) f = edit-answer t long k (f .key) e
 
 -- and of a key that the event does not name, what was held
 pub event-other : (t : List ℕ) → length t ≡ tableWords → (e : Event) → InWords e → (k : Key) → InBytes k → names k e ≡ false → mapIn (event t e .memory) k ≡ mapIn t k

@@ -1,12 +1,14 @@
--- What forgetting makes of the map of each key: on any words of a table's length, also on those that no run produces. Assumes nothing.
+-- What forgetting makes of the map and the edition of each key: on any words of a table's length, also on those that no run produces. Assumes nothing.
 use Prim.Native.Nat.{ℕ, zero, suc, _≤_, _<_}
 use native.Mathlib.Omega.{arith}
 use native.Mathlib.Decide.{decLt, ℕ-discrete}
 use mathlib.Core.Path.{_≡_, refl, sym, ap, _∙_}
 use mathlib.Core.Bool.{false, cond}
+use mathlib.Core.Option.{some}
 use mathlib.Core.List.{List}
 use borrow.Author.Tests.{lt-ltb, le-ltb}
 use lib.ListN.{length, set}
+use Rattle.words.specs.Slots.{view}
 use Rattle.words.proofs.First.{first-none, first-same}
 use Rattle.words.proofs.Rows.{length-putAt}
 use Rattle.message.specs.declared.Key.{Key}
@@ -16,14 +18,13 @@ use Rattle.history.specs.History.{mostKeys}
 use Rattle.answers.specs.Answers.{outcome, plain}
 use Rattle.lookup.specs.Layout.{tableWords, rowOf, slotOf}
 use Rattle.keyrow.specs.Row.{rowWords, keyNumber, rowIs}
-use Rattle.lookup.specs.View.{mapIn}
-use Rattle.keyrow.specs.View.{rowMap}
+use Rattle.lookup.specs.View.{mapIn, editionIn}
 use Rattle.table.specs.Forget.{freeRow, freeTo, forgotten}
 use Rattle.table.proofs.Words.{put}
 use Rattle.lookup.proofs.Words.{row-length}
 use Rattle.learned.proofs.RowSteps.{freed-length, freed-is}
 use Rattle.keyrow.proofs.RowKeys.{is-held, other-key}
-use Rattle.learned.proofs.View.{map-at, map-none}
+use Rattle.learned.proofs.View.{map-none, edition-none, heldMap, heldEdition, map-view, edition-view}
 use Rattle.lookup.proofs.Slots.{is-at}
 
 -- row i once the key is forgotten
@@ -134,17 +135,29 @@ forget-own t long k = go (decLt (slotOf t (keyNumber k)) mostKeys)
     go (yes h) = rw (held-before t (keyNumber k) h) (map-none (freeTo t (keyNumber k) mostKeys) k (omega (arith, gone (keyNumber k) t long)))
     go (no h) = rw (not-held t (keyNumber k) (omega arith)) (map-none t k (omega arith))
 
--- another key is held as it was
-pub forget-other : (t : List ℕ) → length t ≡ tableWords → (key : ℕ) (k : Key) → (key ≡ keyNumber k → ⊥) → mapIn (forgotten t key .memory) k ≡ mapIn t k
-forget-other t long key k ne = go (decLt (slotOf t key) mostKeys) (decLt (slotOf t (keyNumber k)) mostKeys)
+-- and has the edition that a fresh one has
+pub forget-fresh : (t : List ℕ) → length t ≡ tableWords → (k : Key) → editionIn (forgotten t (keyNumber k) .memory) k ≡ 2010
+forget-fresh t long k = go (decLt (slotOf t (keyNumber k)) mostKeys)
   where
-    same : slotOf (freeTo t key mostKeys) (keyNumber k) ≡ slotOf t (keyNumber k)
-    same = freed-slot key t long (keyNumber k) ne
+    go : Dec (slotOf t (keyNumber k) < mostKeys) → editionIn (forgotten t (keyNumber k) .memory) k ≡ 2010
+    go (yes h) = rw (held-before t (keyNumber k) h) (edition-none (freeTo t (keyNumber k) mostKeys) k (omega (arith, gone (keyNumber k) t long)))
+    go (no h) = rw (not-held t (keyNumber k) (omega arith)) (edition-none t k (omega arith))
 
-    go : Dec (slotOf t key < mostKeys) → Dec (slotOf t (keyNumber k) < mostKeys) → mapIn (forgotten t key .memory) k ≡ mapIn t k
-    go (yes h) (yes l) =
-        rw (held-before t key h, map-at t k l)
-        (map-at (freeTo t key mostKeys) k (omega (arith, same)) ∙ rw same (ap rowMap (found-row key t long (keyNumber k) ne l)))
-    go (yes h) (no l) =
-        rw (held-before t key h, map-none t k (omega arith)) (map-none (freeTo t key mostKeys) k (omega (arith, same)))
+-- another key is held as it was
+view-others : (t : List ℕ) → length t ≡ tableWords → (key b : ℕ) → (key ≡ b → ⊥) → view rowIs mostKeys (rowOf (forgotten t key .memory)) b ≡ view rowIs mostKeys (rowOf t) b
+unfolding view slotOf
+view-others t long key b ne = go (decLt (slotOf t key) mostKeys) (decLt (slotOf t b) mostKeys)
+  where
+    same : slotOf (freeTo t key mostKeys) b ≡ slotOf t b
+    same = freed-slot key t long b ne
+
+    go : Dec (slotOf t key < mostKeys) → Dec (slotOf t b < mostKeys) → view rowIs mostKeys (rowOf (forgotten t key .memory)) b ≡ view rowIs mostKeys (rowOf t) b
+    go (yes h) (yes l) = rw (held-before t key h, same, lt-ltb (slotOf t b) mostKeys l) (ap some (found-row key t long b ne l))
+    go (yes h) (no l) = rw (held-before t key h, same, le-ltb (slotOf t b) mostKeys (omega arith))
     go (no h) l = rw (not-held t key (omega arith))
+
+pub forget-other : (t : List ℕ) → length t ≡ tableWords → (key : ℕ) (k : Key) → (key ≡ keyNumber k → ⊥) → mapIn (forgotten t key .memory) k ≡ mapIn t k
+forget-other t long key k ne = map-view (forgotten t key .memory) k ∙ ap heldMap (view-others t long key (keyNumber k) ne) ∙ sym (map-view t k)
+
+pub forget-edition : (t : List ℕ) → length t ≡ tableWords → (key : ℕ) (k : Key) → (key ≡ keyNumber k → ⊥) → editionIn (forgotten t key .memory) k ≡ editionIn t k
+forget-edition t long key k ne = edition-view (forgotten t key .memory) k ∙ ap heldEdition (view-others t long key (keyNumber k) ne) ∙ sym (edition-view t k)

@@ -12,10 +12,10 @@ use Rattle.history.proofs.Follows.{Calls, start, call}
 use Rattle.keyrow.specs.Row.{keyNumber, rowIs}
 use Rattle.keyrow.proofs.RowKeys.{free-is}
 use Rattle.lookup.specs.Layout.{rowOf, slotOf}
-use Rattle.lookup.specs.View.{mapIn}
+use Rattle.lookup.specs.View.{mapIn, editionIn}
 use Rattle.table.specs.Learn.{emptyTable}
 use Rattle.learned.specs.Events.{event, wordsFrom, wordsBy, AllInWords}
-use Rattle.learned.proofs.View.{map-none}
+use Rattle.learned.proofs.View.{map-none, edition-none}
 use Rattle.learned.proofs.KeyNumbers.{inBytes}
 use Rattle.learned.proofs.Sane.{Sane, sane-empty, all-empty}
 use Rattle.learned.proofs.Count.{tableOf, sound}
@@ -36,11 +36,15 @@ pub sane-by : (h : List Event) → AllInWords h → Sane (wordsBy h)
 sane-by [] f = sane-empty
 sane-by (e ∷ h) f = sane-event (wordsBy h) (sane-by h (f .1)) e (f .0)
 
-none-held : (k : Key) → mapIn emptyTable k ≡ Nothing
+no-slot : (a : ℕ) → slotOf emptyTable a ≡ mostKeys
 unfolding slotOf
-none-held k =
-    map-none emptyTable k
-    (omega (arith, first-none (λ i. rowIs (rowOf emptyTable i) (keyNumber k)) mostKeys (λ i h. free-is (rowOf emptyTable i) (keyNumber k) (all-empty i h))))
+no-slot a = first-none (λ i. rowIs (rowOf emptyTable i) a) mostKeys (λ i h. free-is (rowOf emptyTable i) a (all-empty i h))
+
+none-held : (k : Key) → mapIn emptyTable k ≡ Nothing
+none-held k = map-none emptyTable k (omega (arith, no-slot (keyNumber k)))
+
+pub empty-edition : (k : Key) → editionIn emptyTable k ≡ 2010
+empty-edition k = edition-none emptyTable k (omega (arith, no-slot (keyNumber k)))
 
 -- they hold what the history says
 pub calls-by : (h : List Event) → AllInWords h → Calls h (tableOf (wordsBy h))

@@ -4,6 +4,7 @@ pub mod KeyNumbers
 pub mod View
 pub mod Learning
 pub mod Forgetting
+pub mod Editing
 pub mod Refusals
 pub mod Rows
 pub mod Rising
@@ -13,4 +14,5 @@ pub mod Count
 pub mod Events
 pub mod Frames
 pub mod Histories
+pub mod Editions
 pub mod Theorem

@@ -1,4 +1,4 @@
--- What holds of the words of every run: no key is held twice, and every key is a key's number. Learning and forgetting keep it. Assumes nothing.
+-- What holds of the words of every run: no key is held twice, and every key is a key's number. Learning, forgetting and another edition keep it. Assumes nothing.
 use Prim.Native.Nat.{ℕ, _*_, _<_}
 use native.Mathlib.Omega.{arith}
 use native.Mathlib.Decide.{decLt, ℕ-discrete}
@@ -12,14 +12,18 @@ use Rattle.words.proofs.Slots.{put-distinct, not-else}
 use Rattle.words.proofs.Rows.{length-putAt, zeros}
 use Rattle.message.specs.declared.Message.{Message}
 use Rattle.words.proofs.Tests.{test, never}
-use Rattle.history.specs.History.{mostKeys}
+use Rattle.history.specs.History.{mostKeys, isEdition}
 use Rattle.table.specs.Layout.{putRow}
 use Rattle.lookup.specs.Layout.{tableWords, rowOf, slotOf, freeSlot}
 use Rattle.keyrow.specs.Row.{rowWords, keyNumber, keyNumbers, stateWord, keyWord, rowIs, InBytes}
 use Rattle.table.specs.Learn.{emptyTable, learnMessage}
 use Rattle.keyrow.specs.Learn.{learnRow, newRow}
+use Rattle.keyrow.specs.View.{editedRow}
+use Rattle.keyrow.proofs.Edition.{edited-length, edited-state, edited-key, edited-is}
 use Rattle.table.specs.Forget.{freeTo, forgotten}
 use Rattle.table.proofs.Words.{put}
+use Rattle.edition.specs.Edition.{edited}
+use Rattle.edition.proofs.Edited.{no-edition, not-held as unheld, into-row as edit-row}
 use Rattle.lookup.proofs.Words.{row-length, row-state}
 use Rattle.learned.proofs.RowSteps.{learnRow-key, learnRow-length, newRow-key, newRow-length}
 use Rattle.keyrow.proofs.RowKeys.{is-held, held-is, free-is}
@@ -97,6 +101,26 @@ sane-learn t s m b = go (decLt i mostKeys) (decLt (freeSlot t) mostKeys)
         (λ c k l ne x y. never y (rw (sym (is-held (newRow m) c x .1) ∙ newRow-key m) (under t a k (omega arith))))
         (λ u. omega (arith, newRow-key m, below-all (m .key) b)))
     go (no h) (no f) = rw (no-room t (s .long) m (omega arith) (omega arith)) s
+
+-- another edition: the row has the key that it had
+pub sane-edit : (t : List ℕ) → Sane t → (key e : ℕ) → Sane (edited t key e .memory)
+sane-edit t s key e = go (decLt i mostKeys)
+  where
+    i : ℕ
+    i = slotOf t key
+
+    next : List ℕ
+    next = editedRow (rowOf t (slotOf t key)) e
+
+    go : Dec (i < mostKeys) → Sane (edited t key e .memory)
+    go (no h) = rw (unheld t key e (omega arith)) s
+    go (yes h) =
+        test (isEdition e)
+        (λ y. rw (edit-row t key e h y)
+        (sane-put t s i h next (edited-length (rowOf t i) e ∙ row-length t (s .long) i h)
+        (λ c k l ne x z. never z (not-else rowIs mostKeys (rowOf t) (s .apart) c i h (sym (edited-is (rowOf t i) e c) ∙ x) k l ne))
+        (λ u. rw (edited-key (rowOf t i) e) (s .small i h (rw (edited-state (rowOf t i) e) at u)))))
+        (λ n. rw (no-edition t key e h n) s)
 
 -- of a row from which a key was taken, what it still holds it held before
 still : (r : List ℕ) → length r ≡ rowWords → (key a : ℕ) → rowIs (rowWithout r key) a ≡ true → rowIs r a ≡ true

@@ -15,23 +15,25 @@ use Rattle.message.specs.Message.{heard}
 use Rattle.message.proofs.WellFormed.{at-most-eight}
 use Rattle.maps.specs.Maps.{mapOf}
 use Rattle.answers.specs.Answers.{Said, plain}
-use Rattle.history.specs.History.{mostKeys, Event, Learn, Forget, Silent, isEmpty, since, keys, answer, kept, setOf, Few}
+use Rattle.history.specs.History.{mostKeys, Event, Learn, Forget, Edition, Silent, isEmpty, since, keys, answer, kept, setOf, editionOf, Few}
 use Rattle.history.specs.Frames.{heardAnswer, frameAnswer}
 use Rattle.history.proofs.Keys.{has, Once, has-keys, keys-once}
 use Rattle.history.proofs.Follows.{follows, nothing-is}
 use Rattle.history.proofs.Demand as demand
 use Rattle.keyrow.specs.Row.{keyNumber, InBytes}
 use Rattle.lookup.specs.Layout.{tableWords}
-use Rattle.lookup.specs.View.{mapIn, keyCount}
+use Rattle.lookup.specs.View.{mapIn, editionIn, keyCount}
 use Rattle.lookup.specs.Next.{heldKeys}
 use Rattle.table.specs.Learn.{learnMessage, taught, learnt}
 use Rattle.table.specs.Forget.{forgotten}
+use Rattle.edition.specs.Edition.{edited}
 use Rattle.learned.specs.Events.{wordsFrom, wordsBy, InWords, AllInWords}
 use Rattle.learned.proofs.Frames.{in-words}
 use Rattle.learned.proofs.Walk.{listed-map}
 use Rattle.learned.proofs.Count.{walk-count}
 use Rattle.learned.proofs.Events.{looks, event-length, event-answer, event-other}
 use Rattle.learned.proofs.Histories.{sane-by, calls-by}
+use Rattle.learned.proofs.Editions.{edition-is, event-apart}
 
 module _ (h : List Event) (ok : AllInWords h) where
   -- ---- what is held
@@ -78,6 +80,11 @@ module _ (h : List Event) (ok : AllInWords h) where
   pub forget-answer : (k : Key) → InBytes k → forgotten (wordsBy h) (keyNumber k) .answer ≡ plain (answer (kept h) (Forget k))
   forget-answer k b = event-answer (wordsBy h) (sane-by h ok .long) (Forget k) (record { key = b; row = tt }) ∙ ap plain (demand.answered (calls-by h ok) (Forget k))
 
+  -- and to every edition that is asked
+  pub edition-answer : (k : Key) (e : ℕ) → InBytes k → edited (wordsBy h) (keyNumber k) e .answer ≡ plain (answer (kept h) (Edition k e))
+  edition-answer k e b =
+      event-answer (wordsBy h) (sane-by h ok .long) (Edition k e) (record { key = b; row = tt }) ∙ ap plain (demand.answered (calls-by h ok) (Edition k e))
+
   -- a well-formed message is answered 9 exactly where its key is new and 16 keys are held now
   nine-message : (m : Message) → InWords (Learn m) → (learnMessage (wordsBy h) m .answer .number ≡ 9) ↔ ((setOf h (m .key) ≡ []) × (keyCount (wordsBy h) ≡ mostKeys))
   nine-message m f =
@@ -117,9 +124,17 @@ module _ (h : List Event) (ok : AllInWords h) where
     demand-frame id len d bytes =
         frame-answer id len d bytes ∙ ap (λ (g : List Event). plain (frameAnswer g id len d)) (demand.all-kept h few)
 
+    -- its edition is the one last set since then
+    pub demand-edition : (k : Key) → InBytes k → editionIn (wordsBy h) k ≡ editionOf h k
+    demand-edition k b = edition-is h ok k b ∙ ap (λ (g : List Event). editionOf g k) (demand.all-kept h few)
+
     -- to a forget 11 where there is no such message, else 0
     pub demand-forget : (k : Key) → InBytes k → forgotten (wordsBy h) (keyNumber k) .answer ≡ plain (answer h (Forget k))
     demand-forget k b = forget-answer k b ∙ ap (λ (g : List Event). plain (answer g (Forget k))) (demand.all-kept h few)
+
+    -- to an edition 11 where there is none, 27 where it is none of the two, else 0
+    pub demand-set : (k : Key) (e : ℕ) → InBytes k → edited (wordsBy h) (keyNumber k) e .answer ≡ plain (answer h (Edition k e))
+    demand-set k e b = edition-answer k e b ∙ ap (λ (g : List Event). plain (answer g (Edition k e))) (demand.all-kept h few)
 
 -- ---- freed room is used again: after a forget of a held key no frame is answered 9
 
@@ -130,15 +145,18 @@ room-again h ok k b held id len d bytes q =
     let (m, e, new, full) = nine (Forget k ∷ h) all id len d bytes .0 q in
     omega (arith, count-is (Forget k ∷ h) all, full, demand.one-less h k held, demand.at-most h)
 
--- ---- events that do not name a key leave its map, whatever the words are
+-- ---- events that do not name a key leave its map and its edition, whatever the words are
 
 module _ (k : Key) (b : InBytes k) where
   silent-events : (t : List ℕ) → length t ≡ tableWords → (es : List Event) → AllInWords es → Silent k es
-      → (length (wordsFrom t es) ≡ tableWords) × (mapIn (wordsFrom t es) k ≡ mapIn t k)
-  silent-events t long [] f q = (long, refl)
+      → (length (wordsFrom t es) ≡ tableWords) × (mapIn (wordsFrom t es) k ≡ mapIn t k) × (editionIn (wordsFrom t es) k ≡ editionIn t k)
+  silent-events t long [] f q = (long, refl, refl)
   silent-events t long (e ∷ es) f q =
-      let (l, same) = silent-events t long es (f .1) (q .1) in
-      (event-length (wordsFrom t es) l e, event-other (wordsFrom t es) l e (f .0) k b (q .0) ∙ same)
+      let (l, same, still) = silent-events t long es (f .1) (q .1) in
+      (event-length (wordsFrom t es) l e, event-other (wordsFrom t es) l e (f .0) k b (q .0) ∙ same, event-apart (wordsFrom t es) l e (f .0) k b (q .0) ∙ still)
 
   pub others-leave : (t : List ℕ) → length t ≡ tableWords → (es : List Event) → AllInWords es → Silent k es → mapIn (wordsFrom t es) k ≡ mapIn t k
   others-leave t long es f q = silent-events t long es f q .1
+
+  pub others-edition : (t : List ℕ) → length t ≡ tableWords → (es : List Event) → AllInWords es → Silent k es → editionIn (wordsFrom t es) k ≡ editionIn t k
+  others-edition t long es f q = silent-events t long es f q .2

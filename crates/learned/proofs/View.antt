@@ -11,9 +11,9 @@ use Rattle.maps.specs.Maps.{Map, Nothing}
 use Rattle.words.proofs.Tests.{test}
 use Rattle.history.specs.History.{mostKeys}
 use Rattle.lookup.specs.Layout.{rowOf, slotOf}
-use Rattle.keyrow.specs.Row.{keyNumber, rowIs}
-use Rattle.lookup.specs.View.{mapIn}
-use Rattle.keyrow.specs.View.{rowMap}
+use Rattle.keyrow.specs.Row.{keyNumber, formWord, rowIs}
+use Rattle.lookup.specs.View.{mapIn, rowFor, editionIn}
+use Rattle.keyrow.specs.View.{formEdition, rowMap}
 
 -- a row holds the key: its map is that row's
 pub map-at : (t : List ℕ) (k : Key) → slotOf t (keyNumber k) < mostKeys → mapIn t k ≡ rowMap (rowOf t (slotOf t (keyNumber k)))
@@ -25,10 +25,27 @@ pub map-none : (t : List ℕ) (k : Key) → mostKeys ≤ slotOf t (keyNumber k) 
 unfolding mapIn
 map-none t k h = rw (le-ltb (slotOf t (keyNumber k)) mostKeys h)
 
+-- the edition in the same way
+pub edition-at : (t : List ℕ) (k : Key) → slotOf t (keyNumber k) < mostKeys → editionIn t k ≡ formEdition (formWord (rowOf t (slotOf t (keyNumber k))))
+unfolding editionIn rowFor
+edition-at t k h = rw (lt-ltb (slotOf t (keyNumber k)) mostKeys h)
+
+pub edition-none : (t : List ℕ) (k : Key) → mostKeys ≤ slotOf t (keyNumber k) → editionIn t k ≡ 2010
+unfolding editionIn rowFor
+edition-none t k h = rw (le-ltb (slotOf t (keyNumber k)) mostKeys h)
+
 -- the same by the view of a table of slots
 abbrev pub heldMap : Option (List ℕ) → Map
 heldMap none = Nothing
 heldMap (some r) = rowMap r
+
+abbrev pub heldEdition : Option (List ℕ) → ℕ
+heldEdition none = 2010
+heldEdition (some r) = formEdition (formWord r)
+
+pub edition-view : (t : List ℕ) (k : Key) → editionIn t k ≡ heldEdition (slots.view rowIs mostKeys (rowOf t) (keyNumber k))
+unfolding editionIn rowFor slotOf slots.view
+edition-view t k = test (ltb (slotOf t (keyNumber k)) mostKeys) (λ h. rw h) (λ n. rw n)
 
 pub map-view : (t : List ℕ) (k : Key) → mapIn t k ≡ heldMap (slots.view rowIs mostKeys (rowOf t) (keyNumber k))
 unfolding mapIn slotOf slots.view

@@ -5,17 +5,19 @@ use Prim.Native.Nat.{ℕ}
 use mathlib.Core.List.{List, [], _∷_}
 use Rattle.answers.specs.Answers.{Outcome}
 use Rattle.words.specs.Runs as runs
-use Rattle.history.specs.History.{Event, Learn, Forget, subject}
+use Rattle.history.specs.History.{Event, Learn, Forget, Edition, subject}
 use Rattle.keyrow.specs.Row.{keyNumber, InBytes, InRow}
 use Rattle.table.specs.Learn.{emptyTable, learnMessage}
 use Rattle.table.specs.Forget.{forgotten}
+use Rattle.edition.specs.Edition.{edited}
 
 -- ---- the words
 
--- what an event makes of the words, and what it is answered: as `learn` and `forget` promise
+-- what an event makes of the words, and what it is answered: as `learn`, `forget` and `set_edition` promise
 abbrev pub event : List ℕ → Event → Outcome
 event t (Learn m) = learnMessage t m
 event t (Forget k) = forgotten t (keyNumber k)
+event t (Edition k e) = edited t (keyNumber k) e
 
 -- the words after events, from any words and from the empty table
 abbrev pub wordsFrom : List ℕ → List Event → List ℕ
@@ -30,6 +32,7 @@ wordsBy h = wordsFrom emptyTable h
 abbrev pub Placed : Event → Type 0
 Placed (Learn m) = InRow m
 Placed (Forget k) = Unit {0}
+Placed (Edition k e) = Unit {0}
 
 -- the numbers of an event have their place in the words
 pub record InWords (e : Event) : Type 0 where

@@ -3,7 +3,7 @@ use Prim.Native.Nat.{ℕ}
 use mathlib.Core.Path.{_≡_, refl}
 use mathlib.Core.List.{List, [], _∷_, flatten, flatMap}
 use Rattle.text.specs.Text.{spelt, decimalOf, decimalTo}
-use Rattle.dictionary.specs.Dictionary.{widthOf, widthIn}
+use Rattle.dictionary.specs.Dictionary.{widthBy, widthIn}
 use Rattle.rowrule.specs.Rows.{table}
 use Rattle.message.specs.Message.{heard}
 use Rattle.places.specs.Place.{odd, skipped, meet, place, endOf, sharesBit, endTo, bytesFor, sizeOf}
@@ -11,7 +11,7 @@ use Rattle.words.specs.Lists.{tabulate}
 use Rattle.words.specs.First.{first, any, lowest}
 use Rattle.maps.specs.Maps.{sameKey, sameHead, samePlace, contradicts, conflict}
 use Rattle.judge.specs.Judge.{notAbove, firstNamed, judgeOver}
-use Rattle.history.specs.History.{noRoom}
+use Rattle.history.specs.History.{noRoom, editionOf}
 use Rattle.record.specs.Record.{recordIn}
 use Rattle.record.specs.Cut.{wholeIn, recordAt, leftOf, overTo, over}
 use Rattle.listing.specs.Lines.{keyLine, lastLine, listingWith}
@@ -28,5 +28,5 @@ unfolding listingOf storyOf over overTo wholeIn leftOf listingWith lastLine sort
 empty-log = refl
 
 pub two-records : listingOf caseA ≡ spelt "SRC DST MSG N JUDGED AT\n38 39 1 2 0 0\nRECORDS 2 REFUSED 0 OTHER 0 LEFT 0\n"
-unfolding listingOf storyOf over overTo wholeIn leftOf recordAt recordIn tell heard listingWith keyLine lastLine sorted flatten flatMap decimalOf decimalTo sameKey sameHead samePlace contradicts conflict noRoom widthOf widthIn notAbove firstNamed judgeOver lowest table first any sharesBit meet odd skipped place endOf sizeOf bytesFor endTo tabulate
+unfolding listingOf storyOf over overTo wholeIn leftOf recordAt recordIn tell heard listingWith keyLine lastLine sorted flatten flatMap decimalOf decimalTo sameKey sameHead samePlace contradicts conflict noRoom editionOf widthBy widthIn notAbove firstNamed judgeOver lowest table first any sharesBit meet odd skipped place endOf sizeOf bytesFor endTo tabulate
 two-records = refl

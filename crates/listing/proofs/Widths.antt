@@ -12,7 +12,7 @@ use lib.ListN.{length, length-append}
 use Rattle.answers.specs.Answers.{Judged}
 use Rattle.text.proofs.Lengths.{byte-digits, any-digits}
 use Rattle.text.proofs.Pieces.{flat-length}
-use Rattle.dictionary.specs.Dictionary.{widthOf}
+use Rattle.dictionary.specs.Dictionary.{widthBy}
 use Rattle.message.specs.declared.Key.{Key}
 use Rattle.maps.specs.Maps.{Map, Nothing, Conflict, Held}
 use Rattle.judge.specs.Judge.{countOf, judge, measured, judgeOver}
@@ -25,7 +25,7 @@ use Rattle.history.specs.History.{mostKeys}
 use Rattle.keyrow.specs.Row.{keyNumber, keyNumbers, keyNamed, stateWord, InBytes}
 use Rattle.lookup.specs.Layout.{rowOf, slotOf}
 use Rattle.keyrow.specs.View.{rowMap}
-use Rattle.lookup.specs.View.{mapIn}
+use Rattle.lookup.specs.View.{mapIn, editionIn}
 use Rattle.lookup.specs.Next.{lowestFrom, keyAt, nextKey, walk, heldKeys}
 use Rattle.feeding.specs.declared.Counts.{Counts}
 use Rattle.feeding.specs.declared.Tally.{Tally}
@@ -43,10 +43,10 @@ named-byte n j h u = (omega (arith, u .number), go (decLt (j .number) 2) (ℕ-di
     go (no a) (yes b) = omega (arith, u .none (inr b))
     go (no a) (no b) = omega (arith, u .some (omega arith) b)
 
-judged-byte : (m : Map) → countOf m < 256 → (judge widthOf m .number < 256) × (judge widthOf m .position < 256)
-judged-byte Nothing h = (omega arith, omega arith)
-judged-byte Conflict h = (omega arith, omega arith)
-judged-byte (Held x places) h =
+judged-byte : (widthOf : ℕ → ℕ) (m : Map) → countOf m < 256 → (judge widthOf m .number < 256) × (judge widthOf m .position < 256)
+judged-byte widthOf Nothing h = (omega arith, omega arith)
+judged-byte widthOf Conflict h = (omega arith, omega arith)
+judged-byte widthOf (Held x places) h =
     named-byte (x .n) (judgeOver (x .n) (x .transport) (measured widthOf places)) h (judged-named (x .n) (x .transport) (measured widthOf places))
 
 row-byte : (r : List ℕ) → countOf (rowMap r) < 256
@@ -65,19 +65,19 @@ unfolding flatten
 line k n j b h p q =
     simp length-append (omega (arith, byte-digits (k .source) (b .source), byte-digits (k .destination) (b .destination), byte-digits (k .k) (b .number), byte-digits n h, byte-digits (j .number) p, byte-digits (j .position) q))
 
-key-line : (t : List ℕ) (k : Key) → InBytes k → length (flatten (keyLine k (mapIn t k))) ≤ 24
+key-line : (t : List ℕ) (k : Key) → InBytes k → length (flatten (keyLine k (editionIn t k) (mapIn t k))) ≤ 24
 unfolding keyLine
 key-line t k b =
     let h = count-byte t k in
-    let (p, q) = judged-byte (mapIn t k) h in
-    line k (countOf (mapIn t k)) (judge widthOf (mapIn t k)) b h p q
+    let (p, q) = judged-byte (widthBy (editionIn t k)) (mapIn t k) h in
+    line k (countOf (mapIn t k)) (judge (widthBy (editionIn t k)) (mapIn t k)) b h p q
 
 last : (c : Counts) (left : ℕ) → left < 256 → length (flatten (lastLine c left)) ≤ 94
 unfolding flatten lastLine
 last c left h = simp length-append (omega (arith, any-digits (c .records), any-digits (c .refused), any-digits (c .other), byte-digits left h))
 
 abbrev lines : List ℕ → List Key → List (List ℕ)
-lines t ks = flatMap (λ k. keyLine k (mapIn t k)) ks
+lines t ks = flatMap (λ k. keyLine k (editionIn t k) (mapIn t k)) ks
 
 walked : (n : ℕ) (t : List ℕ) (x : ℕ) → length (flatten (lines t (walk n t (keyAt x)))) ≤ 24 * n
 unfolding walk flatMap flatten
@@ -87,7 +87,7 @@ walked (suc n) t x = go (decLt x keyNumbers) (walked n t (lowestFrom t (keyNumbe
     go : Dec (x < keyNumbers) → length (flatten (lines t (walk n t (nextKey t (keyNamed x))))) ≤ 24 * n → length (flatten (lines t (walk (suc n) t (keyAt x)))) ≤ 24 * suc n
     go (no h) ih = rw (le-ltb x keyNumbers (omega arith)) (omega arith)
     go (yes h) ih =
-        rw (lt-ltb x keyNumbers h, flat-length (keyLine (keyNamed x) (mapIn t (keyNamed x))) (lines t (walk n t (nextKey t (keyNamed x)))))
+        rw (lt-ltb x keyNumbers h, flat-length (keyLine (keyNamed x) (editionIn t (keyNamed x)) (mapIn t (keyNamed x))) (lines t (walk n t (nextKey t (keyNamed x)))))
         (omega (arith, key-line t (keyNamed x) (named-bytes x h)))
 
 -- ---- the whole listing

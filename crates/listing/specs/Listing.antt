@@ -9,7 +9,7 @@ use Rattle.words.specs.Runs.{only}
 use Rattle.message.specs.declared.Key.{Key}
 use Rattle.message.specs.Message.{Heard, heard}
 use Rattle.maps.specs.Maps.{Map, mapOf}
-use Rattle.history.specs.History.{Event, keys, kept, setOf}
+use Rattle.history.specs.History.{Event, keys, kept, setOf, editionOf}
 use Rattle.record.specs.Record.{recordIn}
 use Rattle.record.specs.Cut.{wholeIn, leftOf, over}
 use Rattle.history.specs.Frames.{learns, heardAnswer}
@@ -58,7 +58,7 @@ sorted (k ∷ ks) = insert k (sorted ks)
 
 -- ---- the listing
 
--- what is known of a key: the map of its set
+-- what is known of a key: the map of its set, and its edition, which no log sets
 abbrev pub known : List Event → Key → Map
 known events k = mapOf (setOf events k)
 
@@ -72,7 +72,7 @@ countsOf whole answers = record {
 
 -- what a story says of a log of so many whole records with so many bytes left: "Keys are listed rising"
 abbrev pub listingBy : Story → ℕ → ℕ → List ℕ
-listingBy s whole left = flatten (listingWith (known (s .events)) (sorted (keys (kept (s .events)))) (countsOf whole (s .answers)) left)
+listingBy s whole left = flatten (listingWith (editionOf (kept (s .events))) (known (s .events)) (sorted (keys (kept (s .events)))) (countsOf whole (s .answers)) left)
 
 -- "LEFT the bytes of a cut last record"
 unfoldable pub listingOf : List ℕ → List ℕ

@@ -7,14 +7,14 @@ use lib.ListN.{length}
 use Rattle.answers.specs.Answers.{Outcome, outcome, plain, done}
 use Rattle.splice.specs.Splice.{fits, splice}
 use Rattle.record.specs.Chunk.{leftIn}
-use Rattle.lookup.specs.View.{mapIn}
+use Rattle.lookup.specs.View.{mapIn, editionIn}
 use Rattle.lookup.specs.Next.{heldKeys}
 use Rattle.feeding.specs.declared.Tally.{Tally}
 use Rattle.listing.specs.Lines.{listingWith}
 
 -- the listing, in pieces
 abbrev pub piecesOf : List ℕ → Tally → List (List ℕ)
-piecesOf t s = listingWith (mapIn t) (heldKeys t) (s .counts) (leftIn (s .left))
+piecesOf t s = listingWith (editionIn t) (mapIn t) (heldKeys t) (s .counts) (leftIn (s .left))
 
 abbrev pub pageOf : List ℕ → Tally → List ℕ
 pageOf t s = flatten (piecesOf t s)

@@ -3,7 +3,7 @@
 ghost use mathlib.Core.Path.{_≡_};
 ghost use Rattle.answers.specs.Answers.{at as judgedAt, outcome, inNumbers};
 ghost use Rattle.text.specs.Text.{page, putAll};
-ghost use Rattle.lookup.specs.View.{mapIn};
+ghost use Rattle.lookup.specs.View.{mapIn, editionIn};
 ghost use Rattle.lookup.specs.Next.{heldKeys};
 ghost use Rattle.listing.specs.Lines.{lineOf, keyLine, keyLines, lastLine};
 ghost use Rattle.listing.specs.Page.{piecesOf, finished};
@@ -34,7 +34,7 @@ fn put_line(out: &mut [u8], at: usize, key: Key, n: u8, judged: u8, position: u8
 
 // Lays the line of one key, by what the table holds of it.
 fn put_key(t: &[u64; WORDS], out: &mut [u8], at: usize, key: Key) -> usize
-    ensures { λ r. ⌜ page r (now (out .exit)) ≡ putAll (page at (now (out .entry))) (keyLine key (mapIn (now (t .entry)) key)) ⌝ }
+    ensures { λ r. ⌜ page r (now (out .exit)) ≡ putAll (page at (now (out .entry))) (keyLine key (editionIn (now (t .entry)) key) (mapIn (now (t .entry)) key)) ⌝ }
 {
     let n = ask::count(t, key.source, key.destination, key.k);
     let judged = ask::judge(t, key.source, key.destination, key.k);
@@ -46,7 +46,7 @@ fn put_key(t: &[u64; WORDS], out: &mut [u8], at: usize, key: Key) -> usize
 
 // Lays the lines of the held keys, rising; 16 rows hold no more than 16.
 fn put_keys(t: &[u64; WORDS], out: &mut [u8], at: usize) -> usize
-    ensures { λ r. ⌜ page r (now (out .exit)) ≡ putAll (page at (now (out .entry))) (keyLines (mapIn (now (t .entry))) (heldKeys (now (t .entry)))) ⌝ }
+    ensures { λ r. ⌜ page r (now (out .exit)) ≡ putAll (page at (now (out .entry))) (keyLines (editionIn (now (t .entry))) (mapIn (now (t .entry))) (heldKeys (now (t .entry)))) ⌝ }
 {
     let mut place = at;
     let mut next = lookup::first_key(t);

@@ -15,8 +15,8 @@ use Rattle.record.specs.Record.{Bytes}
 use Rattle.lookup.specs.Next.{firstKey, walk}
 use Rattle.table.specs.Learn.{emptyTable}
 use Rattle.learned.specs.Events.{wordsBy}
-use Rattle.image.specs.Write.{imageOf}
-use Rattle.image.specs.Read.{eventsOf, same, good, loaded}
+use Rattle.image.specs.Write.{imageIn}
+use Rattle.image.specs.Read.{formOf, eventsOf, same, good, loaded}
 use Rattle.image.proofs.Again.{events-taught}
 use Rattle.image.proofs.Lengths.{most-long}
 use Rattle.load.specs.Fed.{fedAll}
@@ -41,30 +41,32 @@ all-bytes (x ∷ l) f = (f 0, all-bytes l (λ i. f (suc i)))
 
 -- the page before anything is laid into it
 abbrev pub blank : List ℕ
-blank = replicate 2594 0
+blank = replicate 2610 0
 
-blank-long : length blank ≡ 2594
-blank-long = length-replicate {A = ℕ} 2594 0
+blank-long : length blank ≡ 2610
+blank-long = length-replicate {A = ℕ} 2610 0
 
--- the scratch table is that of the image's messages
+-- the scratch table is that of what the image stands for
 module _ (l t : List ℕ) (e : t ≡ fedAll (replicate 1072 0) l) where
   scratch : t ≡ wordsBy (eventsOf l)
   unfolding emptyTable
   scratch = e ∙ all-fed emptyTable l
 
   -- so its image has room in the page
-  pub room : Bytes l → (n : ℕ) → n ≡ length (imageOf t) → n ≤ 2594
-  room b n f = omega (arith, f, ap (λ (x : List ℕ). length (imageOf x)) scratch, most-long (eventsOf l) (events-taught l b))
+  module _ (b : Bytes l) (form n : ℕ) (later : List ℕ) (its : form ≡ formOf l) (f : n ≡ length (imageIn form t)) where
+    pub room : n ≤ 2610
+    room = omega (arith, f, ap (λ (x : List ℕ). length (imageIn form x)) scratch, most-long form (eventsOf l) (events-taught l b))
 
-  pub still-long : Bytes l → (n : ℕ) (later : List ℕ) → n ≡ length (imageOf t) → later ≡ laid blank 0 (imageOf t) → length later ≡ 2594
-  still-long b n later f g = as-long (imageOf t) blank later (omega (arith, room b n f, blank-long)) g ∙ blank-long
+    module _ (g : later ≡ laid blank 0 (imageIn form t)) where
+      pub still-long : length later ≡ 2610
+      still-long = as-long (imageIn form t) blank later (omega (arith, f, room, blank-long)) g ∙ blank-long
 
-  -- and is compared
-  pub checked : Bytes l → (n : ℕ) (later : List ℕ) → n ≡ length (imageOf t) → later ≡ laid blank 0 (imageOf t) → same (take n later) l ≡ good l
-  unfolding good
-  checked b n later f g =
-      let r : length (imageOf t) ≤ length blank = omega (arith, room b n f, blank-long) in
-      ap (λ (x : List ℕ). same x l) (front (imageOf t) blank later n f r g ∙ ap imageOf scratch)
+      -- and is compared
+      pub checked : same (take n later) l ≡ good l
+      unfolding good
+      checked =
+          let r : length (imageIn form t) ≤ length blank = omega (arith, f, room, blank-long) in
+          ap (λ (x : List ℕ). same x l) (front (imageIn form t) blank later n f r g ∙ (λ i. imageIn (its i) (scratch i)))
 
 -- ---- loading
 

@@ -1,19 +1,23 @@
-// Reading an image as a whole (02, Req 01): whether it is undamaged, and loading it into an empty table. Any bytes may be asked, of any length; the time that they
-// take is bounded, since at most 255 rows with 31 positions each are heard and comparing stops at the first difference.
+// Reading an image of either form as a whole (02, Req 01 and 10): whether it is undamaged, and loading it into an empty table. Any bytes may be asked, of any length; the time
+// that they take is bounded, since at most 255 rows with 31 positions each are heard and comparing stops at the first difference.
 ghost use mathlib.Core.Path.{_≡_};
-ghost use mathlib.Core.Bool.{not};
+ghost use mathlib.Core.Bool.{cond, not};
 ghost use Prim.Native.Nat.{_≤_};
 ghost use lib.Dec.{eqb};
 ghost use lib.ListN.{getD};
 ghost use Rattle.answers.specs.Answers.{inNumbers, outcome};
 ghost use Rattle.keyrow.specs.Row.{keyOf};
-ghost use Rattle.image.specs.Read.{same, good, loaded};
-ghost use Rattle.load.specs.Fed.{fedOne, fedBody, fedAll};
+ghost use Rattle.image.specs.Read.{rowCount, formOf, same, good, loaded};
+ghost use Rattle.load.specs.Fed.{fedOne, fedBody, fedFrames, fedEditions, fedAll};
 use answers::Answer;
+use keyrow::EDITION_2004;
+use keyrow::EDITION_2010;
 use lookup::Next;
 use lookup::WORDS;
 use message::Key;
 use save::MOST;
+use save::OLD;
+use save::WRITTEN;
 
 // The length of every frame that an image stands for.
 const LENGTH: u8 = 8;
@@ -28,6 +32,26 @@ pub fn byte_at(s: &[u8], i: usize) -> u8
         return s[i];
     }
     0
+}
+
+// The form of an image: 1, or it is read as the form that is written.
+pub fn form_of(image: &[u8]) -> u8
+    ensures { λ r. ⌜ r ≡ formOf (now (image .entry)) ⌝ }
+{
+    if byte_at(image, 0) == OLD {
+        return OLD;
+    }
+    WRITTEN
+}
+
+// The edition that a row's last byte says.
+pub fn edition_said(byte: u8) -> u32
+    ensures { λ r. ⌜ r ≡ cond (eqb byte 1) 2004 2010 ⌝ }
+{
+    if byte == 1 {
+        return EDITION_2004;
+    }
+    EDITION_2010
 }
 
 // Hears the frame of a key whose data bytes 4 to 8 stand at p.
@@ -74,12 +98,14 @@ fn feed_body(
 }
 
 // Hears every frame that an image stands for.
-fn feed(t: &mut [u64; WORDS], image: &[u8])
-    ensures { λ _. ⌜ now (t .exit) ≡ fedAll (now (t .entry)) (now (image .entry)) ⌝ }
+fn hear_all(t: &mut [u64; WORDS], image: &[u8])
+    ensures { λ _. ⌜ now (t .exit) ≡ fedFrames (now (t .entry)) (now (image .entry)) ⌝ }
 {
+    let form = form_of(image);
+    let size = save::row_size(form);
     let mut left = byte_at(image, 1);
     let mut row = 2;
-    let mut at = 2 + 7 * left as usize;
+    let mut at = save::behind(form, left);
     while 0 < left {
         let n = byte_at(image, at + 3) % 32;
         feed_body(
@@ -92,8 +118,37 @@ fn feed(t: &mut [u64; WORDS], image: &[u8])
             n,
         );
         at += 5 * n as usize;
-        row += 7;
+        row += size;
         left -= 1;
+    }
+}
+
+// Gives each key the edition that its row says.
+fn set_editions(t: &mut [u64; WORDS], image: &[u8])
+    ensures { λ _. ⌜ now (t .exit) ≡ fedEditions (now (t .entry)) (now (image .entry)) 2 (rowCount (now (image .entry))) ⌝ }
+{
+    let mut left = byte_at(image, 1);
+    let mut row = 2;
+    while 0 < left {
+        edition::set_edition(
+            t,
+            byte_at(image, row),
+            byte_at(image, row + 1),
+            byte_at(image, row + 2),
+            edition_said(byte_at(image, row + 7)),
+        );
+        row += 8;
+        left -= 1;
+    }
+}
+
+// All that an image stands for: its frames, and then the editions of its keys, which form 1 has not.
+fn feed(t: &mut [u64; WORDS], image: &[u8])
+    ensures { λ _. ⌜ now (t .exit) ≡ fedAll (now (t .entry)) (now (image .entry)) ⌝ }
+{
+    hear_all(t, image);
+    if form_of(image) != OLD {
+        set_editions(t, image);
     }
 }
 
@@ -123,14 +178,14 @@ fn same_bytes(a: &[u8], b: &[u8]) -> bool
     true
 }
 
-// Whether an image is undamaged: what it stands for is loaded into a table of its own, saved again, and compared.
+// Whether an image is undamaged: what it stands for is loaded into a table of its own, saved again in the same form, and compared.
 pub fn check(image: &[u8]) -> bool
     ensures { λ r. ⌜ r ≡ good (now (image .entry)) ⌝ }
 {
     let mut t = [0u64; WORDS];
     feed(&mut t, image);
     let mut whole = [0u8; MOST];
-    let n = save::lay(&t, &mut whole);
+    let n = save::lay(&t, form_of(image), &mut whole);
     same_bytes(&whole[..n], image)
 }
 

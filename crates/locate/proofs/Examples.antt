@@ -28,15 +28,15 @@ says position spn start = record { key = key; head = record { n = 2; proprietary
 abbrev caseA : List Message
 caseA = says 1 1517 0 ∷ says 2 1519 8 ∷ []
 
-pub second-of-two : logOf (messagesOf widthOf (λ k. mapOf caseA) 38 1519 (key ∷ [])) ≡ 38 ∷ 39 ∷ 176 ∷ 24 ∷ 8 ∷ 0 ∷ 177 ∷ 0 ∷ 239 ∷ 5 ∷ 2 ∷ 130 ∷ 9 ∷ []
+pub second-of-two : logOf (messagesOf (λ k. widthOf) (λ k. mapOf caseA) 38 1519 (key ∷ [])) ≡ 38 ∷ 39 ∷ 176 ∷ 24 ∷ 8 ∷ 0 ∷ 177 ∷ 0 ∷ 239 ∷ 5 ∷ 2 ∷ 130 ∷ 9 ∷ []
 unfolding placement positionOf recordOf bytesOf idOf fiveOf withKey flatten sameKey sameHead samePlace contradicts conflict widthOf widthIn notAbove firstNamed judgeOver lowest table first any sharesBit meet odd skipped place endOf sizeOf bytesFor endTo tabulate
 second-of-two = refl
 
 -- an SPN that the map does not have, and the keys of another address: nothing
-pub not-there : logOf (messagesOf widthOf (λ k. mapOf caseA) 38 1520 (key ∷ [])) ≡ []
+pub not-there : logOf (messagesOf (λ k. widthOf) (λ k. mapOf caseA) 38 1520 (key ∷ [])) ≡ []
 unfolding placement positionOf recordOf bytesOf idOf fiveOf withKey flatten sameKey sameHead samePlace contradicts conflict widthOf widthIn notAbove firstNamed judgeOver lowest table first any sharesBit meet odd skipped place endOf sizeOf bytesFor endTo tabulate
 not-there = refl
 
-pub not-ours : logOf (messagesOf widthOf (λ k. mapOf caseA) 39 1519 (key ∷ [])) ≡ []
+pub not-ours : logOf (messagesOf (λ k. widthOf) (λ k. mapOf caseA) 39 1519 (key ∷ [])) ≡ []
 unfolding flatten
 not-ours = refl

@@ -111,9 +111,9 @@ module _ (f : Key → Message) (its : (k : Key) → f k .key ≡ k) where
 
 -- ---- the records that answer
 
-module _ (h : List Event) (all : AllTaught h) (widthOf : ℕ → ℕ) (own spn : ℕ) where
+module _ (h : List Event) (all : AllTaught h) (widthOf : Key → ℕ → ℕ) (own spn : ℕ) where
   abbrev message : Key → Message
-  message k = placement widthOf spn k (mapIn (wordsBy h) k)
+  message k = placement (widthOf k) spn k (mapIn (wordsBy h) k)
 
   its-key : (k : Key) → message k .key ≡ k
   unfolding placement
@@ -128,7 +128,7 @@ module _ (h : List Event) (all : AllTaught h) (widthOf : ℕ → ℕ) (own spn :
 
   -- of a key that answered: n and the flags, and the SPN with its start at its position alone
   pub same-placement : (k : Key) → InBytes k → has k (locatedKeys widthOf (wordsBy h) own spn) ≡ true
-      → mapIn reread k ≡ Held (headIn (mapIn (wordsBy h) k)) (placesWith (λ p. none) (placement widthOf spn k (mapIn (wordsBy h) k)))
+      → mapIn reread k ≡ Held (headIn (mapIn (wordsBy h) k)) (placesWith (λ p. none) (placement (widthOf k) spn k (mapIn (wordsBy h) k)))
   unfolding placement
   same-placement k b e =
       ap (λ (t : List ℕ). mapIn t k) reread-is

@@ -1,12 +1,11 @@
 -- The position at which a key answers, by what finding the SPN in its map gave; and the message of that position, as the key's row has it. Assumes nothing.
-use Prim.Native.Nat.{ℕ, _≤_, _<_}
+use Prim.Native.Nat.{ℕ, _<_}
 use native.Mathlib.Omega.{arith}
 use mathlib.Core.Path.{_≡_, refl, ap, _∙_}
 use mathlib.Core.Bool.{Bool, true, false, cond, and-false}
 use mathlib.Core.Option.{Option, none, some}
-use mathlib.Core.List.{List, [], _∷_}
+use mathlib.Core.List.{List}
 use lib.Dec.{eqb, ltb}
-use lib.ListN.{length}
 use borrow.Author.Tests.{eq-eqb, eqb-true, eqb-false, lt-ltb, ne-eqb}
 use Rattle.words.proofs.Tests.{test, never}
 use Rattle.answers.specs.Answers.{plain}
@@ -27,13 +26,6 @@ use Rattle.locate.specs.Parts.{positionTold, messageAt}
 use Rattle.locate.proofs.Keys.{tells-three}
 
 -- ---- n and the flags of a usable map are those of its row
-
--- a row without a form word has 0 there
-pub no-form : (row : List ℕ) → length row ≤ 2 → formWord row ≡ 0
-no-form [] h = refl
-no-form (a ∷ []) h = refl
-no-form (a ∷ b ∷ []) h = refl
-no-form (a ∷ b ∷ c ∷ row) h = absurd (omega (arith, h))
 
 head-row : (widthOf : ℕ → ℕ) (row : List ℕ) → usable widthOf (rowMap row) ≡ true → headOf (formWord row) ≡ headIn (rowMap row)
 unfolding rowMap

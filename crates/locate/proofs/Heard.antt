@@ -70,35 +70,35 @@ place-told widthOf spn k h places u l =
     let (i, n, s, e) = position-at widthOf (Held h places) spn l in
     rw e (stands widthOf (places (suc i)) spn (usable-sound widthOf (Held h places) u .present i n) s)
 
-module _ (h : List Event) (all : AllTaught h) (widthOf : ℕ → ℕ) (own spn : ℕ) where
+module _ (h : List Event) (all : AllTaught h) (widthOf : Key → ℕ → ℕ) (own spn : ℕ) where
   abbrev words : List ℕ
   words = wordsBy h
 
   -- the message of a key that answers is one of its set
-  pub heard-before : (k : Key) → InBytes k → tells widthOf own spn k (mapIn (wordsBy h) k) ≡ true → List·Memᴰ (placement widthOf spn k (mapIn (wordsBy h) k)) (setOf h k)
+  pub heard-before : (k : Key) → InBytes k → tells (widthOf k) own spn k (mapIn (wordsBy h) k) ≡ true → List·Memᴰ (placement (widthOf k) spn k (mapIn (wordsBy h) k)) (setOf h k)
   unfolding placement
-  heard-before k b e = go (mapIn words k) (sym (map-is h (taught-in-words h all) k b)) (tells-three widthOf own spn k (mapIn words k) e .1) (tells-three widthOf own spn k (mapIn words k) e .2)
+  heard-before k b e = go (mapIn words k) (sym (map-is h (taught-in-words h all) k b)) (tells-three (widthOf k) own spn k (mapIn words k) e .1) (tells-three (widthOf k) own spn k (mapIn words k) e .2)
     where
-      go : (m : Map) → mapOf (setOf h k) ≡ m → usable widthOf m ≡ true → 0 < positionOf widthOf m spn → List·Memᴰ (placement widthOf spn k m) (setOf h k)
+      go : (m : Map) → mapOf (setOf h k) ≡ m → usable (widthOf k) m ≡ true → 0 < positionOf (widthOf k) m spn → List·Memᴰ (placement (widthOf k) spn k m) (setOf h k)
       go Nothing q u l = never u refl
       go Conflict q u l = never u refl
       go (Held head places) q u l =
-          said-by h all k head places q (positionOf widthOf (Held head places) spn) (placement widthOf spn k (Held head places) .place) (place-told widthOf spn k head places u l)
+          said-by h all k head places q (positionOf (widthOf k) (Held head places) spn) (placement (widthOf k) spn k (Held head places) .place) (place-told (widthOf k) spn k head places u l)
 
   -- a frame can teach it
-  pub teachable : (k : Key) → InBytes k → tells widthOf own spn k (mapIn (wordsBy h) k) ≡ true → Teachable (placement widthOf spn k (mapIn (wordsBy h) k))
+  pub teachable : (k : Key) → InBytes k → tells (widthOf k) own spn k (mapIn (wordsBy h) k) ≡ true → Teachable (placement (widthOf k) spn k (mapIn (wordsBy h) k))
   teachable k b e = set-taught h all k _ (heard-before k b e) .0
 
   -- "Reading what we wrote": its record, read as a frame, is heard as the message of that key and position
-  pub heard-as : (k : Key) → InBytes k → tells widthOf own spn k (mapIn (wordsBy h) k) ≡ true → (rest : List ℕ)
-      → heardIn (recordOf (placement widthOf spn k (mapIn (wordsBy h) k)) ++ rest) ≡ record { number = 0; message = some (placement widthOf spn k (mapIn (wordsBy h) k)) }
+  pub heard-as : (k : Key) → InBytes k → tells (widthOf k) own spn k (mapIn (wordsBy h) k) ≡ true → (rest : List ℕ)
+      → heardIn (recordOf (placement (widthOf k) spn k (mapIn (wordsBy h) k)) ++ rest) ≡ record { number = 0; message = some (placement (widthOf k) spn k (mapIn (wordsBy h) k)) }
   heard-as k b e rest = record-heard _ (teachable k b e) rest
 
   -- so are all of them
   pub all-teachable : AllTeachable (located widthOf (wordsBy h) own spn)
   all-teachable = each (locatedKeys widthOf words own spn) (λ k y. let b = of-bytes widthOf words own spn k y in teachable k b (sym (exactly widthOf words own spn k b) ∙ y))
     where
-      each : (ks : List Key) → ((k : Key) → has k ks ≡ true → Teachable (placement widthOf spn k (mapIn words k))) → AllTeachable (map (λ k. placement widthOf spn k (mapIn words k)) ks)
+      each : (ks : List Key) → ((k : Key) → has k ks ≡ true → Teachable (placement (widthOf k) spn k (mapIn words k))) → AllTeachable (map (λ k. placement (widthOf k) spn k (mapIn words k)) ks)
       each [] f = tt
       each (k ∷ ks) f = (f k (rw (key-refl k)), each ks (λ j y. f j (later (sameKey k j) y)))
 
@@ -109,7 +109,7 @@ one-of [] ys m u = u .0
 one-of (x ∷ xs) ys m u = one-of xs ys m (u .1)
 
 -- after answer 0 the record behind those of the messages before it is heard as its message
-pub read-back : (h : List Event) → AllTaught h → (widthOf : ℕ → ℕ) (own id len : ℕ) (d log : List ℕ) (start : ℕ) → locatedBy widthOf (wordsBy h) own id len d log start .answer .number ≡ 0
+pub read-back : (h : List Event) → AllTaught h → (widthOf : Key → ℕ → ℕ) (own id len : ℕ) (d log : List ℕ) (start : ℕ) → locatedBy widthOf (wordsBy h) own id len d log start .answer .number ≡ 0
     → (xs ys : List Message) (m : Message) → answersTo widthOf (wordsBy h) own id d ≡ xs ++ (m ∷ ys)
     → heardIn (drop (start + 13 * length xs) (locatedBy widthOf (wordsBy h) own id len d log start .memory)) ≡ record { number = 0; message = some m }
 read-back h all widthOf own id len d log start z xs ys m e =
@@ -137,39 +137,44 @@ learned-again g all m i j b =
     same : SameMembers (setOf (Learn m ∷ g) j) (setOf g j)
     same = test (counts (kept g) (Learn m)) (λ y. rw y one) (λ n. rw n (λ x. (λ d. d, λ d. d)))
 
--- ---- the answer goes by the sets of our own address' keys
+-- ---- the answer goes by the sets and the dictionaries of our own address' keys
 
-module _ (h g : List Event) (inh : AllInWords h) (ing : AllInWords g) (own : ℕ)
-    (same : (k : Key) → InBytes k → k .source ≡ own → SameMembers (setOf h k) (setOf g k)) (widthOf : ℕ → ℕ) where
+module _ (h g : List Event) (inh : AllInWords h) (ing : AllInWords g) (own : ℕ) (d e : Key → ℕ → ℕ)
+    (dicts : (k : Key) → InBytes k → k .source ≡ own → d k ≡ e k) (same : (k : Key) → InBytes k → k .source ≡ own → SameMembers (setOf h k) (setOf g k)) where
   own-map : (k : Key) → InBytes k → k .source ≡ own → mapIn (wordsBy h) k ≡ mapIn (wordsBy g) k
   own-map k b s = map-is h inh k b ∙ same-map (setOf h k) (setOf g k) (same k b s) ∙ sym (map-is g ing k b)
 
   module _ (spn : ℕ) where
-    same-keys : locatedKeys widthOf (wordsBy h) own spn ≡ locatedKeys widthOf (wordsBy g) own spn
-    same-keys =
-        one-list _ _ (key-order widthOf (wordsBy h) own spn) (key-order widthOf (wordsBy g) own spn)
-        (λ k. same-test (has k (locatedKeys widthOf (wordsBy h) own spn)) (has k (locatedKeys widthOf (wordsBy g) own spn))
-        (λ y. let b = of-bytes widthOf (wordsBy h) own spn k y in
-        let e = sym (exactly widthOf (wordsBy h) own spn k b) ∙ y in
-        exactly widthOf (wordsBy g) own spn k b ∙ ap (tells widthOf own spn k) (sym (own-map k b (tells-three widthOf own spn k (mapIn (wordsBy h) k) e .0))) ∙ e)
-        (λ y. let b = of-bytes widthOf (wordsBy g) own spn k y in
-        let e = sym (exactly widthOf (wordsBy g) own spn k b) ∙ y in
-        exactly widthOf (wordsBy h) own spn k b ∙ ap (tells widthOf own spn k) (own-map k b (tells-three widthOf own spn k (mapIn (wordsBy g) k) e .0)) ∙ e))
+    own-tells : (k : Key) → InBytes k → k .source ≡ own → tells (d k) own spn k (mapIn (wordsBy h) k) ≡ tells (e k) own spn k (mapIn (wordsBy g) k)
+    own-tells k b s = λ i. tells (dicts k b s i) own spn k (own-map k b s i)
 
-    same-messages : located widthOf (wordsBy h) own spn ≡ located widthOf (wordsBy g) own spn
+    same-keys : locatedKeys d (wordsBy h) own spn ≡ locatedKeys e (wordsBy g) own spn
+    same-keys =
+        one-list _ _ (key-order d (wordsBy h) own spn) (key-order e (wordsBy g) own spn)
+        (λ k. same-test (has k (locatedKeys d (wordsBy h) own spn)) (has k (locatedKeys e (wordsBy g) own spn))
+        (λ y. let b = of-bytes d (wordsBy h) own spn k y in
+        let q = sym (exactly d (wordsBy h) own spn k b) ∙ y in
+        exactly e (wordsBy g) own spn k b ∙ sym (own-tells k b (tells-three (d k) own spn k (mapIn (wordsBy h) k) q .0)) ∙ q)
+        (λ y. let b = of-bytes e (wordsBy g) own spn k y in
+        let q = sym (exactly e (wordsBy g) own spn k b) ∙ y in
+        exactly d (wordsBy h) own spn k b ∙ own-tells k b (tells-three (e k) own spn k (mapIn (wordsBy g) k) q .0) ∙ q))
+
+    same-messages : located d (wordsBy h) own spn ≡ located e (wordsBy g) own spn
     same-messages =
-        each (locatedKeys widthOf (wordsBy h) own spn)
-        (λ k y. let b = of-bytes widthOf (wordsBy h) own spn k y in own-map k b (tells-three widthOf own spn k (mapIn (wordsBy h) k) (sym (exactly widthOf (wordsBy h) own spn k b) ∙ y) .0))
-        ∙ ap (map (λ k. placement widthOf spn k (mapIn (wordsBy g) k))) same-keys
+        each (locatedKeys d (wordsBy h) own spn)
+        (λ k y. let b = of-bytes d (wordsBy h) own spn k y in
+        let s = tells-three (d k) own spn k (mapIn (wordsBy h) k) (sym (exactly d (wordsBy h) own spn k b) ∙ y) .0 in
+        λ i. placement (dicts k b s i) spn k (own-map k b s i))
+        ∙ ap (map (λ k. placement (e k) spn k (mapIn (wordsBy g) k))) same-keys
       where
-        each : (ks : List Key) → ((k : Key) → has k ks ≡ true → mapIn (wordsBy h) k ≡ mapIn (wordsBy g) k)
-            → map (λ k. placement widthOf spn k (mapIn (wordsBy h) k)) ks ≡ map (λ k. placement widthOf spn k (mapIn (wordsBy g) k)) ks
+        each : (ks : List Key) → ((k : Key) → has k ks ≡ true → placement (d k) spn k (mapIn (wordsBy h) k) ≡ placement (e k) spn k (mapIn (wordsBy g) k))
+            → map (λ k. placement (d k) spn k (mapIn (wordsBy h) k)) ks ≡ map (λ k. placement (e k) spn k (mapIn (wordsBy g) k)) ks
         each [] f = refl
-        each (k ∷ ks) f = ap₂ (λ (x : Message) (l : List Message). x ∷ l) (ap (placement widthOf spn k) (f k (rw (key-refl k)))) (each ks (λ j y. f j (later (sameKey k j) y)))
+        each (k ∷ ks) f = ap₂ (λ (x : Message) (l : List Message). x ∷ l) (f k (rw (key-refl k))) (each ks (λ j y. f j (later (sameKey k j) y)))
 
   -- order, repeats and other keys don't count, nor do the keys of other addresses
-  pub same-located : (id len : ℕ) (d log : List ℕ) (start : ℕ) → locatedBy widthOf (wordsBy h) own id len d log start ≡ locatedBy widthOf (wordsBy g) own id len d log start
+  pub same-located : (id len : ℕ) (bytes log : List ℕ) (start : ℕ) → locatedBy d (wordsBy h) own id len bytes log start ≡ locatedBy e (wordsBy g) own id len bytes log start
   unfolding locatedBy
-  same-located id len d log start =
-      ap (λ (ms : List Message). tested (requestTests id len d ++ roomTests (cond (isOurs own (destinationOf (fieldsOf id))) ms []) log start) log (layDone (cond (isOurs own (destinationOf (fieldsOf id))) ms []) log start))
-      (same-messages (spnAsked d))
+  same-located id len bytes log start =
+      ap (λ (ms : List Message). tested (requestTests id len bytes ++ roomTests (cond (isOurs own (destinationOf (fieldsOf id))) ms []) log start) log (layDone (cond (isOurs own (destinationOf (fieldsOf id))) ms []) log start))
+      (same-messages (spnAsked bytes))

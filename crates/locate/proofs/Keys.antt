@@ -73,13 +73,13 @@ held-tells widthOf own spn k (Held h places) = and-true (tells widthOf own spn k
 
 -- ---- of a table
 
-module _ (widthOf : ℕ → ℕ) (t : List ℕ) (own spn : ℕ) where
+module _ (widthOf : Key → ℕ → ℕ) (t : List ℕ) (own spn : ℕ) where
   abbrev answers : Key → Bool
-  answers k = tells widthOf own spn k (mapIn t k)
+  answers k = tells (widthOf k) own spn k (mapIn t k)
 
   -- "one message per usable key of our own address that holds it": these keys and no other
-  pub exactly : (k : Key) → InBytes k → has k (locatedKeys widthOf t own spn) ≡ tells widthOf own spn k (mapIn t k)
-  exactly k b = has-only answers k (heldKeys t) ∙ rw (listed-map t k b) (held-tells widthOf own spn k (mapIn t k))
+  pub exactly : (k : Key) → InBytes k → has k (locatedKeys widthOf t own spn) ≡ tells (widthOf k) own spn k (mapIn t k)
+  exactly k b = has-only answers k (heldKeys t) ∙ rw (listed-map t k b) (held-tells (widthOf k) own spn k (mapIn t k))
 
   -- each once
   pub each-once : Once (locatedKeys widthOf t own spn)

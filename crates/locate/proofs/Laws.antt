@@ -42,7 +42,7 @@ module _ (l : List ℕ) (at : ℕ) (x : List ℕ) (room : at + length x ≤ leng
       sym (drop-drop (length x) at (splice l at x))
       ∙ ap (drop (length x)) (drop-at (take at l) _ at (length-take-le at l (omega arith))) ∙ drop-at x _ (length x) refl
 
-module _ (widthOf : ℕ → ℕ) (t : List ℕ) (own id len : ℕ) (d log : List ℕ) (start : ℕ) where
+module _ (widthOf : Key → ℕ → ℕ) (t : List ℕ) (own id len : ℕ) (d log : List ℕ) (start : ℕ) where
   abbrev told : List Message
   told = answersTo widthOf t own id d
 
@@ -129,7 +129,7 @@ module _ (widthOf : ℕ → ℕ) (t : List ℕ) (own id len : ℕ) (d log : List
   pub elsewhere : isOurs own (destinationOf (fieldsOf id)) ≡ false → answersTo widthOf t own id d ≡ []
   elsewhere f = rw f
 
-  pub nobody : ((k : Key) → InBytes k → tells widthOf own (spnAsked d) k (mapIn t k) ≡ false) → answersTo widthOf t own id d ≡ []
+  pub nobody : ((k : Key) → InBytes k → tells (widthOf k) own (spnAsked d) k (mapIn t k) ≡ false) → answersTo widthOf t own id d ≡ []
   nobody f = rw none-there (go (isOurs own (destinationOf (fieldsOf id))))
     where
       empty : (ks : List Key) → ((k : Key) → has k ks ≡ true → has k ks ≡ false) → ks ≡ []
@@ -139,7 +139,7 @@ module _ (widthOf : ℕ → ℕ) (t : List ℕ) (own id len : ℕ) (d log : List
       none-there : locatedKeys widthOf t own (spnAsked d) ≡ []
       none-there = empty (locatedKeys widthOf t own (spnAsked d)) (λ k y. let b = of-bytes widthOf t own (spnAsked d) k y in exactly widthOf t own (spnAsked d) k b ∙ f k b)
 
-      go : (b : Bool) → cond b (map (λ k. placement widthOf (spnAsked d) k (mapIn t k)) []) [] ≡ []
+      go : (b : Bool) → cond b (map (λ k. placement (widthOf k) (spnAsked d) k (mapIn t k)) []) [] ≡ []
       go true = refl
       go false = refl
 

@@ -10,6 +10,7 @@ use Rattle.answers.specs.Answers.{Said, plain, Outcome, outcome}
 use Rattle.answers.specs.Tests.{Test, _when_, firstOf, tested}
 use Rattle.frame.specs.declared.Fields.{Fields}
 use Rattle.frame.specs.Frame.{greatestIdentifier, fieldsOf, pgnOf, destinationOf}
+use Rattle.message.specs.declared.Key.{Key}
 use Rattle.message.specs.declared.Message.{Message}
 use Rattle.message.specs.Message.{byte, servedTests}
 use Rattle.locate.specs.Locate.{spnAsked, isOurs, located, answersTo, roomTests, layDone, locatedBy}
@@ -40,7 +41,7 @@ module _ (log : List ℕ) (later : List (Test Said)) (rest : Outcome) where
 
 -- ---- the call
 
-module _ (widthOf : ℕ → ℕ) (t : List ℕ) (own id len : ℕ) (d log : List ℕ) (start : ℕ) (f : Fields) (split : f ≡ fieldsOf id) where
+module _ (widthOf : Key → ℕ → ℕ) (t : List ℕ) (own id len : ℕ) (d log : List ℕ) (start : ℕ) (f : Fields) (split : f ≡ fieldsOf id) where
   -- by what the identifier and the length gave
   module _ (bad : ℕ) (its : bad ≡ firstOf (servedTests 44800 id len f) 0) where
     faults-are : bad ≡ firstOf (servedTests 44800 id len (fieldsOf id)) 0

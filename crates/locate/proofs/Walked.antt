@@ -24,9 +24,9 @@ use Rattle.locate.specs.Parts.{positionTold, messagesFor, positionsFrom,
 use Rattle.locate.proofs.Keys.{tells-three}
 use Rattle.locate.proofs.Finding.{message-is}
 
-module _ (widthOf : ℕ → ℕ) (t : List ℕ) (own spn : ℕ) where
+module _ (widthOf : Key → ℕ → ℕ) (t : List ℕ) (own spn : ℕ) where
   abbrev toldAt : Key → ℕ
-  toldAt k = positionTold widthOf own spn k (mapIn t k)
+  toldAt k = positionTold (widthOf k) own spn k (mapIn t k)
 
   -- how many of some keys answer, and with what pieces
   abbrev pub many : List Key → ℕ
@@ -39,25 +39,25 @@ module _ (widthOf : ℕ → ℕ) (t : List ℕ) (own spn : ℕ) where
   pub told-count : length (located widthOf t own spn) ≡ length (locatedKeys widthOf t own spn)
   told-count = as-many (locatedKeys widthOf t own spn)
     where
-      as-many : (ks : List Key) → length (map (λ k. placement widthOf spn k (mapIn t k)) ks) ≡ length ks
+      as-many : (ks : List Key) → length (map (λ k. placement (widthOf k) spn k (mapIn t k)) ks) ≡ length ks
       as-many [] = refl
       as-many (k ∷ ks) = ap suc (as-many ks)
 
   -- ---- one key more
 
   -- a key that answers does so at a position
-  some-position : (k : Key) → tells widthOf own spn k (mapIn t k) ≡ true → eqb (positionOf widthOf (mapIn t k) spn) 0 ≡ false
-  some-position k y = ne-eqb (positionOf widthOf (mapIn t k) spn) 0 (λ z. absurd (omega (arith, z, tells-three widthOf own spn k (mapIn t k) y .2)))
+  some-position : (k : Key) → tells (widthOf k) own spn k (mapIn t k) ≡ true → eqb (positionOf (widthOf k) (mapIn t k) spn) 0 ≡ false
+  some-position k y = ne-eqb (positionOf (widthOf k) (mapIn t k) spn) 0 (λ z. absurd (omega (arith, z, tells-three (widthOf k) own spn k (mapIn t k) y .2)))
 
   many-more : (k : Key) (ks : List Key) → many (k ∷ ks) ≡ messagesFor (toldAt k) + many ks
   unfolding positionTold
-  many-more k ks = test (tells widthOf own spn k (mapIn t k)) (λ y. rw (y, some-position k y) (omega arith)) (λ n. rw n (omega arith))
+  many-more k ks = test (tells (widthOf k) own spn k (mapIn t k)) (λ y. rw (y, some-position k y) (omega arith)) (λ n. rw n (omega arith))
 
-  pieces-more : (k : Key) (ks : List Key) → pieces (k ∷ ks) ≡ pieceAt widthOf t spn k (toldAt k) ++ pieces ks
+  pieces-more : (k : Key) (ks : List Key) → pieces (k ∷ ks) ≡ pieceAt (widthOf k) t spn k (toldAt k) ++ pieces ks
   unfolding positionTold
   pieces-more k ks =
-      test (tells widthOf own spn k (mapIn t k))
-      (λ y. rw (y, some-position k y) (ap (λ (m : Message). recordOf m ∷ pieces ks) (sym (message-is widthOf t own spn k y))))
+      test (tells (widthOf k) own spn k (mapIn t k))
+      (λ y. rw (y, some-position k y) (ap (λ (m : Message). recordOf m ∷ pieces ks) (sym (message-is (widthOf k) t own spn k y))))
       (λ n. rw n)
 
   -- ---- a turn: one key, and the walk goes on from it
@@ -67,10 +67,10 @@ module _ (widthOf : ℕ → ℕ) (t : List ℕ) (own spn : ℕ) where
     unfolding walk
     count-turn p u c one h = rw (e, f, g, h, u) (omega (arith, many-more k (walk m t (nextKey t k))))
 
-    pub put-turn : (p : ℕ) → p ≡ toldAt k → (q r : Page) → r ≡ putAll q (pieceAt widthOf t spn k p) → putAll r (pieces (walk m t later)) ≡ putAll q (pieces (walk n t next))
+    pub put-turn : (p : ℕ) → p ≡ toldAt k → (q r : Page) → r ≡ putAll q (pieceAt (widthOf k) t spn k p) → putAll r (pieces (walk m t later)) ≡ putAll q (pieces (walk n t next))
     unfolding walk
     put-turn p u q r h =
-        rw (e, f, g, h, u) (sym (ap (putAll q) (pieces-more k (walk m t (nextKey t k))) ∙ put-more (pieceAt widthOf t spn k (toldAt k)) (pieces (walk m t (nextKey t k))) q))
+        rw (e, f, g, h, u) (sym (ap (putAll q) (pieces-more k (walk m t (nextKey t k))) ∙ put-more (pieceAt (widthOf k) t spn k (toldAt k)) (pieces (walk m t (nextKey t k))) q))
 
     positions-step : positionsFrom widthOf t own spn n next ≡ toldAt k ∷ positionsFrom widthOf t own spn m later
     unfolding positionsFrom

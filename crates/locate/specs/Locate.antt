@@ -1,5 +1,5 @@
 -- A Parameter Locate (002, 5.3.2), and the Configuration Identification Messages that answer it (02, Req 03). A dictionary is a function from SPN to width, 0 where
--- it does not have the SPN. Total on any words of a table.
+-- it does not have the SPN; each key has its own. Total on any words of a table.
 -- Assumes nothing.
 use Prim.Native.Nat.{ℕ, _+_, _*_}
 use mathlib.Core.Bool.{Bool, cond, not, _&&_, _||_}
@@ -62,24 +62,24 @@ placement widthOf spn k m = record {
   place = record { spn = spn; start = startIn (paramsOf widthOf m (positionOf widthOf m spn)) };
 }
 
-module _ (widthOf : ℕ → ℕ) (look : Key → Map) (own spn : ℕ) where
+module _ (widthOf : Key → ℕ → ℕ) (look : Key → Map) (own spn : ℕ) where
   -- those of some keys, in their order, that answer
   abbrev pub telling : List Key → List Key
-  telling ks = only (λ k. tells widthOf own spn k (look k)) ks
+  telling ks = only (λ k. tells (widthOf k) own spn k (look k)) ks
 
   -- "one message per usable key of our own address that holds it"
   abbrev pub messagesOf : List Key → List Message
-  messagesOf ks = map (λ k. placement widthOf spn k (look k)) (telling ks)
+  messagesOf ks = map (λ k. placement (widthOf k) spn k (look k)) (telling ks)
 
 -- of the held keys, "in key order"
-abbrev pub locatedKeys : (ℕ → ℕ) → List ℕ → ℕ → ℕ → List Key
+abbrev pub locatedKeys : (Key → ℕ → ℕ) → List ℕ → ℕ → ℕ → List Key
 locatedKeys widthOf t own spn = telling widthOf (mapIn t) own spn (heldKeys t)
 
-abbrev pub located : (ℕ → ℕ) → List ℕ → ℕ → ℕ → List Message
+abbrev pub located : (Key → ℕ → ℕ) → List ℕ → ℕ → ℕ → List Message
 located widthOf t own spn = messagesOf widthOf (mapIn t) own spn (heldKeys t)
 
 -- what answers a request
-abbrev pub answersTo : (ℕ → ℕ) → List ℕ → ℕ → ℕ → List ℕ → List Message
+abbrev pub answersTo : (Key → ℕ → ℕ) → List ℕ → ℕ → ℕ → List ℕ → List Message
 answersTo widthOf t own id d = cond (isOurs own (destinationOf (fieldsOf id))) (located widthOf t own (spnAsked d)) []
 
 -- ---- the log
@@ -93,6 +93,6 @@ abbrev pub layDone : List Message → List ℕ → ℕ → Outcome
 layDone ms log start = outcome (done (length ms)) (splice log start (logOf ms))
 
 -- the call: "1, 2 (not 44800), 3, 24 .., then 13 ..; none is then written"
-unfoldable pub locatedBy : (ℕ → ℕ) → List ℕ → ℕ → ℕ → ℕ → List ℕ → List ℕ → ℕ → Outcome
+unfoldable pub locatedBy : (Key → ℕ → ℕ) → List ℕ → ℕ → ℕ → ℕ → List ℕ → List ℕ → ℕ → Outcome
 locatedBy widthOf t own id len d log start =
     tested (requestTests id len d ++ roomTests (answersTo widthOf t own id d) log start) log (layDone (answersTo widthOf t own id d) log start)

@@ -34,12 +34,12 @@ positionTold widthOf own spn k m = cond (tells widthOf own spn k m) (positionOf 
 abbrev pub messagesFor : ℕ → ℕ
 messagesFor position = cond (eqb position 0) 0 1
 
-module _ (widthOf : ℕ → ℕ) (t : List ℕ) (own spn : ℕ) where
+module _ (widthOf : Key → ℕ → ℕ) (t : List ℕ) (own spn : ℕ) where
   -- the positions of the n keys that a walk still comes to, and 0 where there is none
   unfoldable pub positionsFrom : ℕ → Option Key → List ℕ
   positionsFrom zero next = []
   positionsFrom (suc n) none = 0 ∷ positionsFrom n none
-  positionsFrom (suc n) (some k) = positionTold widthOf own spn k (mapIn t k) ∷ positionsFrom n (nextKey t k)
+  positionsFrom (suc n) (some k) = positionTold (widthOf k) own spn k (mapIn t k) ∷ positionsFrom n (nextKey t k)
 
   -- of all the held keys, rising
   abbrev pub positionsOf : List ℕ

@@ -1,6 +1,6 @@
-// Answers a Parameter Locate (002, 5.3.2; 02, Req 03): a tester asks where a parameter stands, and every usable map of our own address that has it answers with
-// the Configuration Identification Message of that position, laid as a record into the caller's log. The learned table is lent as words; whatever they hold,
-// the call has its defined answer and leaves them.
+// Answers a Parameter Locate (002, 5.3.2; 02, Req 03): a tester asks where a parameter stands, and every map of our own address that is usable by its key's edition and has
+// it answers with the Configuration Identification Message of that position, laid as a record into the caller's log. The learned table is lent as words; whatever they
+// hold, the call has its defined answer and leaves them.
 ghost use mathlib.Core.Path.{_≡_};
 ghost use Prim.Native.Nat.{_+_, _*_, _≤_};
 ghost use lib.Dec.{ltb};
@@ -8,7 +8,7 @@ ghost use lib.ListN.{length};
 ghost use mathlib.Core.Bool.{cond};
 ghost use Rattle.answers.specs.Answers.{outcome, inNumbers, plain, done};
 ghost use Rattle.text.specs.Text.{page, put, putAll};
-ghost use Rattle.dictionary.specs.Dictionary.{widthOf};
+ghost use Rattle.open.specs.Open.{widthFor};
 ghost use Rattle.keyrow.specs.Row.{formWord};
 ghost use Rattle.keyrow.specs.View.{headOf};
 ghost use Rattle.lookup.specs.View.{mapIn, rowFor};
@@ -83,7 +83,7 @@ fn mentions(row: &[u64], spn: u32) -> bool
 
 // The position at which a key answers: its source is our own address, its map is usable, and the SPN has that position there. 0 where it does not answer.
 fn position_told(t: &[u64; WORDS], asked: Asked, key: Key) -> u8
-    ensures { λ r. ⌜ r ≡ positionTold widthOf (asked .own) (asked .spn) key (mapIn (now (t .entry)) key) ⌝ }
+    ensures { λ r. ⌜ r ≡ positionTold (widthFor (now (t .entry)) key) (asked .own) (asked .spn) key (mapIn (now (t .entry)) key) ⌝ }
 {
     if key.source != asked.own {
         return 0;
@@ -105,8 +105,8 @@ fn one_for(position: u8) -> u32
 
 // Looks at every held key once; 16 rows hold no more than 16.
 fn look_all(t: &[u64; WORDS], asked: Asked) -> Places
-    ensures { λ r. ⌜ (r .positions ≡ positionsOf widthOf (now (t .entry)) (asked .own) (asked .spn))
-        × (r .count ≡ length (locatedKeys widthOf (now (t .entry)) (asked .own) (asked .spn))) ⌝ }
+    ensures { λ r. ⌜ (r .positions ≡ positionsOf (widthFor (now (t .entry))) (now (t .entry)) (asked .own) (asked .spn))
+        × (r .count ≡ length (locatedKeys (widthFor (now (t .entry))) (now (t .entry)) (asked .own) (asked .spn))) ⌝ }
 {
     let mut positions = [0u8; ROWS];
     let mut count = 0;
@@ -152,7 +152,7 @@ fn head_of(t: &[u64; WORDS], key: Key) -> Head
 
 // The message of a key that has the SPN at a position.
 fn message_at(t: &[u64; WORDS], asked: Asked, key: Key, position: u8) -> Message
-    ensures { λ r. ⌜ r ≡ messageAt widthOf (now (t .entry)) (asked .spn) key position ⌝ }
+    ensures { λ r. ⌜ r ≡ messageAt (widthFor (now (t .entry)) key) (now (t .entry)) (asked .spn) key position ⌝ }
 {
     let head = head_of(t, key);
     let there = ask::parameter_at(t, key.source, key.destination, key.k, position);
@@ -190,7 +190,7 @@ fn put_told(
     log: &mut [u8],
     at: usize,
 ) -> usize
-    ensures { λ r. ⌜ page r (now (log .exit)) ≡ putAll (page at (now (log .entry))) (pieceAt widthOf (now (t .entry)) (asked .spn) key position) ⌝ }
+    ensures { λ r. ⌜ page r (now (log .exit)) ≡ putAll (page at (now (log .entry))) (pieceAt (widthFor (now (t .entry)) key) (now (t .entry)) (asked .spn) key position) ⌝ }
 {
     if position == 0 {
         return at;
@@ -206,9 +206,9 @@ fn put_all(
     log: &mut [u8],
     start: usize,
 ) -> usize
-    requires { ⌜ now positions ≡ positionsOf widthOf (now t) (asked .own) (asked .spn) ⌝ }
+    requires { ⌜ now positions ≡ positionsOf (widthFor (now t)) (now t) (asked .own) (asked .spn) ⌝ }
     ensures { λ r. ⌜ page r (now (log .exit))
-        ≡ putAll (page start (now (log .entry))) (piecesOf (located widthOf (now (t .entry)) (asked .own) (asked .spn))) ⌝ }
+        ≡ putAll (page start (now (log .entry))) (piecesOf (located (widthFor (now (t .entry))) (now (t .entry)) (asked .own) (asked .spn))) ⌝ }
 {
     let mut at = start;
     let mut next = lookup::first_key(t);
@@ -240,7 +240,7 @@ fn answer_none(size: usize, start: usize) -> Answer
 
 // To a request that is ours: each key is judged once and counted, and the records are written where there is room for all of them.
 fn answer_all(t: &[u64; WORDS], asked: Asked, log: &mut [u8], start: usize) -> Answer
-    ensures { λ r. ⌜ outcome (inNumbers r) (now (log .exit)) ≡ laidOut (located widthOf (now (t .entry)) (asked .own) (asked .spn)) (now (log .entry)) start ⌝ }
+    ensures { λ r. ⌜ outcome (inNumbers r) (now (log .exit)) ≡ laidOut (located (widthFor (now (t .entry))) (now (t .entry)) (asked .own) (asked .spn)) (now (log .entry)) start ⌝ }
 {
     let places = look_all(t, asked);
     let positions = places.positions;
@@ -264,7 +264,7 @@ pub fn locate(
     start: usize,
 ) -> Answer
     ensures { λ r. ⌜ outcome (inNumbers r) (now (log .exit))
-        ≡ locatedBy widthOf (now (t .entry)) own id len (now (d .entry)) (now (log .entry)) start ⌝ }
+        ≡ locatedBy (widthFor (now (t .entry))) (now (t .entry)) own id len (now (d .entry)) (now (log .entry)) start ⌝ }
 {
     let f = frame::split(id);
     let bad = message::served_fault(PARAMETER_LOCATE, id, len, f);

@@ -5,6 +5,7 @@
 //   2 key                            a key is forgotten; no line
 //   3 identifier, length, 8 bytes, own address, length of the log, start
 //                                    what locate answers, its number and detail, and the whole log
+//   4 key, edition                   gives the key that edition; no line
 use libc::STDIN_FILENO;
 use lines::bytes;
 use lines::end;
@@ -54,6 +55,9 @@ fn run(t: &mut [u64; WORDS], b: &[u8; 32]) {
         }
         2 => {
             table::forget(t, b[1], b[2], b[3]);
+        }
+        4 => {
+            edition::set_edition(t, b[1], b[2], b[3], four(b[4], b[5], b[6], b[7]));
         }
         _ => {
             let mut log = io::buffer();

@@ -8,8 +8,8 @@ use lib.ListN.{length}
 use Rattle.message.specs.declared.Key.{Key}
 use Rattle.maps.specs.Maps.{Map, Nothing}
 use Rattle.history.specs.History.{mostKeys}
-use Rattle.keyrow.specs.Row.{keyNumber, keyNamed, stateWord, keyWord}
-use Rattle.keyrow.specs.View.{rowMap}
+use Rattle.keyrow.specs.Row.{keyNumber, keyNamed, stateWord, keyWord, formWord}
+use Rattle.keyrow.specs.View.{formEdition, rowMap}
 use Rattle.lookup.specs.Layout.{rowOf, slotOf}
 
 -- the map of a key: that of the lowest row that holds it
@@ -19,6 +19,10 @@ mapIn t k = cond (ltb (slotOf t (keyNumber k)) mostKeys) (rowMap (rowOf t (slotO
 -- the words of a key's row, none where the key is not held
 unfoldable pub rowFor : List ℕ → Key → List ℕ
 rowFor t k = cond (ltb (slotOf t (keyNumber k)) mostKeys) (rowOf t (slotOf t (keyNumber k))) []
+
+-- the edition of a key: that of its row, and 2010 where the key is not held (02, Req 10)
+unfoldable pub editionIn : List ℕ → Key → ℕ
+editionIn t k = formEdition (formWord (rowFor t k))
 
 -- ---- how many keys are held
 

@@ -7,8 +7,10 @@ ghost use lib.Dec.{eqb, leb, ltb};
 ghost use lib.ListN.{length};
 ghost use Rattle.keyrow.specs.Row.{keyOf, keyNumber};
 ghost use Rattle.lookup.specs.Layout.{tableWords, slotOf, freeSlot};
-ghost use Rattle.lookup.specs.View.{rowFor};
+ghost use Rattle.lookup.specs.View.{rowFor, editionIn};
 ghost use Rattle.lookup.specs.Next.{keyFound, lowestFrom, keyAt, firstKey, nextKey};
+use keyrow::EDITION_2010;
+use keyrow::FORM;
 use keyrow::FREE;
 use keyrow::KEY;
 use keyrow::ROW_WORDS;
@@ -81,6 +83,17 @@ pub fn row_of(t: &[u64; WORDS], source: u8, destination: u8, k: u8) -> &[u64]
     let a = i * ROW_WORDS;
     let e = a + ROW_WORDS;
     &words[a..e]
+}
+
+// The edition of a key, 2010 where it is not held.
+pub fn edition_of(t: &[u64; WORDS], source: u8, destination: u8, k: u8) -> u32
+    ensures { λ r. ⌜ r ≡ editionIn (now (t .entry)) (keyOf source destination k) ⌝ }
+{
+    let row = row_of(t, source, destination, k);
+    if row.len() <= FORM {
+        return EDITION_2010;
+    }
+    keyrow::edition_of(row[FORM])
 }
 
 // ---- the keys in rising order

@@ -16,7 +16,6 @@ use Rattle.words.specs.Lists.{tabulate}
 use Rattle.words.proofs.Lists.{length-tabulate, get-tabulate, tabulate-equal}
 use Rattle.words.proofs.Tests.{test}
 use Rattle.message.specs.declared.Key.{Key}
-use Rattle.dictionary.specs.Dictionary.{widthOf}
 use Rattle.maps.specs.Maps.{Map, Nothing, Conflict}
 use Rattle.judge.specs.Judge.{Param, isNone, spnIn, startIn, widthIn, widthAt, judge, usable, countOf, paramsOf, startsOf, widthsOf}
 use Rattle.judge.proofs.Judged.{usable-sound}
@@ -24,7 +23,7 @@ use Rattle.history.specs.History.{mostKeys}
 use Rattle.keyrow.specs.Row.{positions, keyNumber, stateWord, formWord}
 use Rattle.lookup.specs.Layout.{tableWords, rowOf, slotOf}
 use Rattle.lookup.proofs.Words.{row-length}
-use Rattle.open.specs.Open.{isHeld, judgedBy, mapAs, markedWidth, reach, listed, Opening, openedIn, openedBy}
+use Rattle.open.specs.Open.{isHeld, judgedBy, mapAs, widthRow, widthFor, markedWidth, reach, listed, Opening, openedIn, openedBy}
 use Rattle.open.specs.declared.Opened.{Opened}
 use Rattle.answers.proofs.Cases.{same-answer}
 use Rattle.open.specs.Unfolded.{unfolded, unfoldedIn}
@@ -39,19 +38,19 @@ pub judge-held : (widthOf : ℕ → ℕ) (m : Map) → isHeld m ≡ true → jud
 unfolding judgedBy
 judge-held widthOf m h = rw h
 
-pub opened-row : (row spns₀ starts₀ widths₀ spns starts widths : List ℕ) (a : Said) (j : Judged) (n : ℕ) (p t : Bool) → a ≡ judged j → j ≡ judge widthOf (rowMap row)
+pub opened-row : (row spns₀ starts₀ widths₀ spns starts widths : List ℕ) (a : Said) (j : Judged) (n : ℕ) (p t : Bool) → a ≡ judged j → j ≡ judge (widthRow row) (rowMap row)
     → n ≡ headOf (formWord row) .n → p ≡ headOf (formWord row) .proprietary → t ≡ headOf (formWord row) .transport
     → spns ≡ unfoldedIn spnIn row spns₀ → starts ≡ unfoldedIn startIn row starts₀ → widths ≡ unfoldedIn markedWidth row widths₀
-    → record { answer = a; n = n; proprietary = p; transport = t; spns = spns; starts = starts; widths = widths } ≡ openedBy widthOf (rowMap row) (rowAs row) spns₀ starts₀ widths₀
+    → record { answer = a; n = n; proprietary = p; transport = t; spns = spns; starts = starts; widths = widths } ≡ openedBy (widthRow row) (rowMap row) (rowAs row) spns₀ starts₀ widths₀
 unfolding openedBy unfolded
 opened-row row spns₀ starts₀ widths₀ spns starts widths a j n p t ea ej en ep et es ess ew =
-    let q : a ≡ judgedBy widthOf (rowMap row) = ea ∙ ap judged ej ∙ judge-held widthOf (rowMap row) (row-held row) in
+    let q : a ≡ judgedBy (widthRow row) (rowMap row) = ea ∙ ap judged ej ∙ judge-held (widthRow row) (rowMap row) (row-held row) in
     λ i. record { answer = q i; n = en i; proprietary = ep i; transport = et i; spns = es i; starts = ess i; widths = ew i }
 
-pub opened-none : (m w : Map) (spns starts widths : List ℕ) (a : Said) → m ≡ Nothing → w ≡ Nothing → a ≡ plain 11
+pub opened-none : (widthOf : ℕ → ℕ) (m w : Map) (spns starts widths : List ℕ) (a : Said) → m ≡ Nothing → w ≡ Nothing → a ≡ plain 11
     → record { answer = a; n = 0; proprietary = false; transport = false; spns = spns; starts = starts; widths = widths } ≡ openedBy widthOf m w spns starts widths
 unfolding openedBy judgedBy tabulate
-opened-none m w spns starts widths a em ew ea = rw (em, ew, ea)
+opened-none widthOf m w spns starts widths a em ew ea = rw (em, ew, ea)
 
 -- the map as the key's row has it, by the row
 module _ (t : List ℕ) (k : Key) (long : length t ≡ tableWords) (row : List ℕ) (its : row ≡ rowFor t k) where
@@ -148,30 +147,30 @@ same-opened o p a b c d e f q =
 
 -- ---- what `open` gave
 
-listed-long : (f : Option Param → ℕ) (m : Map) (held : List ℕ) → length held ≡ positions → length (listed f widthOf m held) ≡ positions
-listed-long f m held h = simp (length-append, length-tabulate, length-drop) (omega (arith, h, min-le-right (countOf m) positions))
+listed-long : (f : Option Param → ℕ) (widthOf : ℕ → ℕ) (m : Map) (held : List ℕ) → length held ≡ positions → length (listed f widthOf m held) ≡ positions
+listed-long f widthOf m held h = simp (length-append, length-tabulate, length-drop) (omega (arith, h, min-le-right (countOf m) positions))
 
-module _ (t : List ℕ) (k : Key) (o : Opening) (spns starts widths : List ℕ) (e : o ≡ openedBy widthOf (mapIn t k) (mapAs t k) spns starts widths) where
-  pub answer-is : o .answer ≡ judgedBy widthOf (mapIn t k)
+module _ (t : List ℕ) (k : Key) (o : Opening) (spns starts widths : List ℕ) (e : o ≡ openedBy (widthFor t k) (mapIn t k) (mapAs t k) spns starts widths) where
+  pub answer-is : o .answer ≡ judgedBy (widthFor t k) (mapIn t k)
   unfolding openedBy
   answer-is = ap (λ (x : Opening). x .answer) e
 
   -- the lists keep their lengths
   pub starts-long : length starts ≡ positions → length (o .starts) ≡ positions
   unfolding openedBy
-  starts-long h = ap (λ (x : Opening). length (x .starts)) e ∙ listed-long startIn (mapAs t k) starts h
+  starts-long h = ap (λ (x : Opening). length (x .starts)) e ∙ listed-long startIn (widthFor t k) (mapAs t k) starts h
 
   pub widths-long : length widths ≡ positions → length (o .widths) ≡ positions
   unfolding openedBy
-  widths-long h = ap (λ (x : Opening). length (x .widths)) e ∙ listed-long markedWidth (mapAs t k) widths h
+  widths-long h = ap (λ (x : Opening). length (x .widths)) e ∙ listed-long markedWidth (widthFor t k) (mapAs t k) widths h
 
   -- of a key whose map is usable
-  module _ (u : usable widthOf (mapIn t k) ≡ true) where
+  module _ (u : usable (widthFor t k) (mapIn t k) ≡ true) where
     its : mapAs t k ≡ mapIn t k
-    its = as-usable widthOf t k u
+    its = as-usable (widthFor t k) t k u
 
     few : countOf (mapIn t k) ≤ positions
-    few = usable-few widthOf t k u
+    few = usable-few (widthFor t k) t k u
 
     pub n-is : o .n ≡ countOf (mapIn t k)
     unfolding openedBy
@@ -180,30 +179,30 @@ module _ (t : List ℕ) (k : Key) (o : Opening) (spns starts widths : List ℕ) 
     pub n-few : o .n ≤ positions
     n-few = rw n-is few
 
-    spns-listed : o .spns ≡ listed spnIn widthOf (mapIn t k) spns
+    spns-listed : o .spns ≡ listed spnIn (widthFor t k) (mapIn t k) spns
     unfolding openedBy
-    spns-listed = ap (λ (x : Opening). x .spns) e ∙ ap (λ (m : Map). listed spnIn widthOf m spns) its
+    spns-listed = ap (λ (x : Opening). x .spns) e ∙ ap (λ (m : Map). listed spnIn (widthFor t k) m spns) its
 
-    starts-listed : o .starts ≡ listed startIn widthOf (mapIn t k) starts
+    starts-listed : o .starts ≡ listed startIn (widthFor t k) (mapIn t k) starts
     unfolding openedBy
-    starts-listed = ap (λ (x : Opening). x .starts) e ∙ ap (λ (m : Map). listed startIn widthOf m starts) its
+    starts-listed = ap (λ (x : Opening). x .starts) e ∙ ap (λ (m : Map). listed startIn (widthFor t k) m starts) its
 
-    widths-listed : o .widths ≡ listed markedWidth widthOf (mapIn t k) widths
+    widths-listed : o .widths ≡ listed markedWidth (widthFor t k) (mapIn t k) widths
     unfolding openedBy
-    widths-listed = ap (λ (x : Opening). x .widths) e ∙ ap (λ (m : Map). listed markedWidth widthOf m widths) its
+    widths-listed = ap (λ (x : Opening). x .widths) e ∙ ap (λ (m : Map). listed markedWidth (widthFor t k) m widths) its
 
-    pub starts-are : take (o .n) (o .starts) ≡ startsOf widthOf (mapIn t k)
-    starts-are = rw (n-is, starts-listed) (listed-starts widthOf (mapIn t k) few starts)
+    pub starts-are : take (o .n) (o .starts) ≡ startsOf (widthFor t k) (mapIn t k)
+    starts-are = rw (n-is, starts-listed) (listed-starts (widthFor t k) (mapIn t k) few starts)
 
-    pub widths-are : take (o .n) (o .widths) ≡ widthsOf widthOf (mapIn t k)
-    widths-are = rw (n-is, widths-listed) (listed-widths widthOf (mapIn t k) few u widths)
+    pub widths-are : take (o .n) (o .widths) ≡ widthsOf (widthFor t k) (mapIn t k)
+    widths-are = rw (n-is, widths-listed) (listed-widths (widthFor t k) (mapIn t k) few u widths)
 
     module _ (i : ℕ) (l : i < countOf (mapIn t k)) where
-      pub spn-at : getD (o .spns) i 0 ≡ spnIn (paramsOf widthOf (mapIn t k) (suc i))
-      spn-at = rw spns-listed (listed-at widthOf (mapIn t k) few spnIn spns i l)
+      pub spn-at : getD (o .spns) i 0 ≡ spnIn (paramsOf (widthFor t k) (mapIn t k) (suc i))
+      spn-at = rw spns-listed (listed-at (widthFor t k) (mapIn t k) few spnIn spns i l)
 
-      pub start-at : getD (o .starts) i 0 ≡ startIn (paramsOf widthOf (mapIn t k) (suc i))
-      start-at = rw starts-listed (listed-at widthOf (mapIn t k) few startIn starts i l)
+      pub start-at : getD (o .starts) i 0 ≡ startIn (paramsOf (widthFor t k) (mapIn t k) (suc i))
+      start-at = rw starts-listed (listed-at (widthFor t k) (mapIn t k) few startIn starts i l)
 
-      pub width-at : getD (o .widths) i 0 ≡ widthIn (paramsOf widthOf (mapIn t k) (suc i))
-      width-at = rw widths-listed (listed-width widthOf (mapIn t k) few u widths i l)
+      pub width-at : getD (o .widths) i 0 ≡ widthIn (paramsOf (widthFor t k) (mapIn t k) (suc i))
+      width-at = rw widths-listed (listed-width (widthFor t k) (mapIn t k) few u widths i l)

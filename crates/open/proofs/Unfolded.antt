@@ -15,7 +15,7 @@ use Rattle.answers.specs.Answers.{Judged}
 use Rattle.message.specs.declared.Place.{Place}
 use Rattle.words.specs.Lists.{tabulate}
 use Rattle.words.proofs.Lists.{in-range, length-tabulate, get-tabulate, tabulate-equal, write-more}
-use Rattle.dictionary.specs.Dictionary.{widthOf, widthsOver}
+use Rattle.dictionary.specs.Dictionary.{widthBy, widthsOver}
 use Rattle.dictionary.proofs.Table.{width-most}
 use Rattle.maps.specs.Maps.{Conflict, Held}
 use Rattle.judge.specs.Judge.{Param, withWidth, spnIn, startIn, judgeOver, judge, mark, shortest, inSlices}
@@ -23,19 +23,19 @@ use Rattle.judge.proofs.Within.{judged-same}
 use Rattle.judge.proofs.Slices.{slices-at, slices-past}
 use Rattle.keyrow.proofs.View.{row-held as map-held}
 use Rattle.keyrow.specs.Row.{positions, stateWord, formWord}
-use Rattle.keyrow.specs.View.{headOf, placeOf, placeIn, rowMap, spnThere, startThere}
-use Rattle.open.specs.Open.{isHeld, markedWidth, reach}
+use Rattle.keyrow.specs.View.{headOf, formEdition, placeOf, placeIn, rowMap, spnThere, startThere}
+use Rattle.open.specs.Open.{isHeld, widthRow, markedWidth, reach}
 use Rattle.open.specs.Unfolded.{paramsIn, unfolded, unfoldedIn, markedAt, markedTo}
 
 -- the parameter of index i by its word
-pub cell-at : (row : List ℕ) (i : ℕ) → i < positions → withWidth widthOf (placeOf (getD row (3 + i) 0)) ≡ paramsIn row (suc i)
+pub cell-at : (row : List ℕ) (i : ℕ) → i < positions → withWidth (widthRow row) (placeOf (getD row (3 + i) 0)) ≡ paramsIn row (suc i)
 cell-at row i l =
     let e : 3 + i ≡ 2 + suc i = omega arith in
     rw (e, le-leb 1 (suc i) (omega arith), le-leb (suc i) positions l)
 
 -- the width of a cell's parameter, by its SPN and the mark
-width-of-cell : (cell : ℕ) → cond (eqb cell 0) mark (widthOf (spnIn (withWidth widthOf (placeOf cell)))) ≡ markedWidth (withWidth widthOf (placeOf cell))
-width-of-cell cell = go (eqb cell 0)
+width-of-cell : (widthOf : ℕ → ℕ) (cell : ℕ) → cond (eqb cell 0) mark (widthOf (spnIn (withWidth widthOf (placeOf cell)))) ≡ markedWidth (withWidth widthOf (placeOf cell))
+width-of-cell widthOf cell = go (eqb cell 0)
   where
     go : (b : Bool) → cond b mark (widthOf (spnIn (withWidth widthOf (cond b none (some (record { spn = (cell - 1) % 2 ^ 32; start = (cell - 1) / 2 ^ 32 }))))))
         ≡ markedWidth (withWidth widthOf (cond b none (some (record { spn = (cell - 1) % 2 ^ 32; start = (cell - 1) / 2 ^ 32 }))))
@@ -43,17 +43,17 @@ width-of-cell cell = go (eqb cell 0)
     go false = refl
 
 -- what a decoder of cells gives, as the lists have it
-pub spn-there : (x : Option Place) → spnThere x ≡ spnIn (withWidth widthOf x)
-spn-there none = refl
-spn-there (some y) = refl
+pub spn-there : (widthOf : ℕ → ℕ) (x : Option Place) → spnThere x ≡ spnIn (withWidth widthOf x)
+spn-there widthOf none = refl
+spn-there widthOf (some y) = refl
 
-pub start-there : (x : Option Place) → startThere x ≡ startIn (withWidth widthOf x)
-start-there none = refl
-start-there (some y) = refl
+pub start-there : (widthOf : ℕ → ℕ) (x : Option Place) → startThere x ≡ startIn (withWidth widthOf x)
+start-there widthOf none = refl
+start-there widthOf (some y) = refl
 
 -- a turn of `lay_places`: one number more is written, that of the parameter at index i
 pub turn : (f : Option Param → ℕ) (row d xs : List ℕ) (i v : ℕ) → length d ≡ positions → i < positions
-    → xs ≡ unfolded f row i d → v ≡ f (withWidth widthOf (placeOf (getD row (3 + i) 0))) → set xs i v ≡ unfolded f row (i + 1) d
+    → xs ≡ unfolded f row i d → v ≡ f (withWidth (widthRow row) (placeOf (getD row (3 + i) 0))) → set xs i v ≡ unfolded f row (i + 1) d
 unfolding unfolded
 turn f row d xs i v e l w q = rw (w, q, cell-at row i l) (write-more (λ k. f (paramsIn row (suc k))) i d (omega arith))
 
@@ -80,10 +80,10 @@ module _ (f : Option Param → ℕ) (row : List ℕ) (m : ℕ) (held : List ℕ)
       ∙ take-append-seam (tabulate (λ i. f (paramsIn row (suc i))) m) (drop m held)
 
 -- a parameter whose width is no mark is told by its three numbers
-whole : (x : Option Place) (s t : ℕ) → s ≡ spnIn (withWidth widthOf x) → t ≡ startIn (withWidth widthOf x)
-    → cond (eqb (markedWidth (withWidth widthOf x)) mark) none (some (record { spn = s; start = t; width = markedWidth (withWidth widthOf x) })) ≡ withWidth widthOf x
-whole none s t e f = refl
-whole (some y) s t e f = rw (e, f, ne-eqb (widthOf (y .spn)) mark (omega (arith, width-most (y .spn))))
+whole : (edition : ℕ) (x : Option Place) (s t : ℕ) → s ≡ spnIn (withWidth (widthBy edition) x) → t ≡ startIn (withWidth (widthBy edition) x)
+    → cond (eqb (markedWidth (withWidth (widthBy edition) x)) mark) none (some (record { spn = s; start = t; width = markedWidth (withWidth (widthBy edition) x) })) ≡ withWidth (widthBy edition) x
+whole edition none s t e f = refl
+whole edition (some y) s t e f = rw (e, f, ne-eqb (widthBy edition (y .spn)) mark (omega (arith, width-most edition (y .spn))))
 
 -- the three lists stand for what the row says of each position up to n
 module _ (row a b c : List ℕ) (n : ℕ) (long : (length a ≡ positions) × (length b ≡ positions) × (length c ≡ positions)) where
@@ -107,7 +107,7 @@ module _ (row a b c : List ℕ) (n : ℕ) (long : (length a ≡ positions) × (l
         | yes l ↦ let m : i < reach n = below h l in
             slices-at spns starts widths i (rw shortest-is l)
             ∙ rw (unfolded-at markedWidth row (reach n) c i 0 m)
-            (whole (placeIn row (suc i)) _ _ (unfolded-at spnIn row (reach n) a i 0 m) (unfolded-at startIn row (reach n) b i 0 m))
+            (whole (formEdition (formWord row)) (placeIn row (suc i)) _ _ (unfolded-at spnIn row (reach n) a i 0 m) (unfolded-at startIn row (reach n) b i 0 m))
         | no l ↦ slices-past spns starts widths i (rw shortest-is (omega arith)) ∙ sym (past i (omega arith))
       ]
     where
@@ -136,13 +136,13 @@ row-held row = go (eqb (stateWord row) 1)
 pub row-judged : (row a b c spns starts widths : List ℕ) (n : ℕ) (transport : Bool) (j : Judged) → (length a ≡ positions) × (length b ≡ positions) × (length c ≡ positions) → stateWord row ≡ 1
     → n ≡ headOf (formWord row) .n → transport ≡ headOf (formWord row) .transport
     → spns ≡ unfoldedIn spnIn row a → starts ≡ unfoldedIn startIn row b → widths ≡ unfoldedIn markedWidth row c
-    → j ≡ judgeOver n transport (inSlices spns starts widths) → j ≡ judge widthOf (rowMap row)
+    → j ≡ judgeOver n transport (inSlices spns starts widths) → j ≡ judge (widthRow row) (rowMap row)
 row-judged row a b c spns starts widths n transport j long held en et es ess ew e =
     let h = headOf (formWord row) in
     e
     ∙ (λ k. judgeOver (en k) (et k) (inSlices (es k) (ess k) (ew k)))
     ∙ judged-same (h .n) _ (paramsIn row) (slices-are row a b c (h .n) long) (h .transport)
-    ∙ sym (ap (judge widthOf) (map-held row held))
+    ∙ sym (ap (judge (widthRow row)) (map-held row held))
 
 -- ---- the widths
 
@@ -162,28 +162,29 @@ mark-turn row d xs i v l e f =
     still : getD (tabulate (markedAt row d) i ++ drop i d) i 0 ≡ getD d i 0
     still = past-front (tabulate (markedAt row d) i) d i (length-tabulate (markedAt row d) i)
 
--- the dictionary's widths of the first m SPNs, marked where nothing stands, are the row's own
+-- the widths of the first m SPNs by the row's edition, marked where nothing stands, are the row's own
 module _ (row held : List ℕ) (m : ℕ) (l : m ≤ positions) (f : length held ≡ positions) where
   abbrev theirs : List ℕ
   theirs = tabulate (λ i. spnIn (paramsIn row (suc i))) m
 
   abbrev looked : List ℕ
-  looked = tabulate (λ i. widthOf (getD theirs i 0)) m ++ drop m held
+  looked = tabulate (λ i. widthRow row (getD theirs i 0)) m ++ drop m held
 
-  looked-is : widthsOver theirs held ≡ looked
+  looked-is : widthsOver (widthRow row) theirs held ≡ looked
   unfolding widthsOver
   looked-is =
       let far : min (length theirs) (length held) ≡ m = ap (λ (k : ℕ). min k (length held)) (length-tabulate _ m) ∙ min-eq-left (omega arith) in
-      ap (λ (k : ℕ). tabulate (λ i. widthOf (getD theirs i 0)) k ++ drop k held) far
+      ap (λ (k : ℕ). tabulate (λ i. widthRow row (getD theirs i 0)) k ++ drop k held) far
 
   at : (i : ℕ) → i < m → markedAt row looked i ≡ markedWidth (paramsIn row (suc i))
   at i h =
       ap (λ (w : ℕ). cond (eqb (getD row (3 + i) 0) 0) mark w)
-      (List·getD-append (tabulate _ m) (drop m held) 0 i (rw length-tabulate h) ∙ get-tabulate _ m i h ∙ ap widthOf (get-tabulate _ m i h ∙ ap spnIn (sym (cell-at row i (omega arith)))))
-      ∙ width-of-cell (getD row (3 + i) 0) ∙ ap markedWidth (cell-at row i (omega arith))
+      (List·getD-append (tabulate _ m) (drop m held) 0 i (rw length-tabulate h) ∙ get-tabulate _ m i h ∙ ap (widthRow row) (get-tabulate _ m i h ∙ ap spnIn (sym (cell-at row i (omega arith)))))
+      ∙ width-of-cell (widthRow row) (getD row (3 + i) 0) ∙ ap markedWidth (cell-at row i (omega arith))
 
-  pub widths-unfolded : (spns : List ℕ) → spns ≡ theirs → markedTo row m (widthsOver spns held) ≡ unfolded markedWidth row m held
+  pub widths-unfolded : (edition : ℕ) → edition ≡ formEdition (formWord row) → (spns : List ℕ) → spns ≡ theirs
+      → markedTo row m (widthsOver (widthBy edition) spns held) ≡ unfolded markedWidth row m held
   unfolding markedTo unfolded
-  widths-unfolded spns e =
-      ap (λ (s : List ℕ). markedTo row m (widthsOver s held)) e ∙ ap (markedTo row m) looked-is
+  widths-unfolded edition q spns e =
+      (λ i. markedTo row m (widthsOver (widthBy (q i)) (e i) held)) ∙ ap (markedTo row m) looked-is
       ∙ ap₂ _++_ (tabulate-equal (markedAt row looked) _ m at) (drop-at (tabulate _ m) (drop m held) m (length-tabulate _ m))

@@ -10,13 +10,15 @@ use lib.ListN.{drop}
 use Rattle.words.specs.Lists.{tabulate}
 use Rattle.answers.specs.Answers.{Said, inNumbers, plain, judged}
 use Rattle.message.specs.declared.Key.{Key}
+use Rattle.dictionary.specs.Dictionary.{widthBy}
 use Rattle.maps.specs.Maps.{Map, Nothing, Conflict, Held}
 use Rattle.judge.specs.Judge.{Param, spnIn, startIn, mark, judge, transportOf, countOf, paramsOf}
 use Rattle.history.specs.History.{mostKeys}
-use Rattle.keyrow.specs.Row.{positions, keyNumber}
-use Rattle.keyrow.specs.View.{rowAs}
+use Rattle.keyrow.specs.Row.{positions, keyNumber, formWord}
+use Rattle.keyrow.specs.View.{formEdition, rowAs}
 use Rattle.open.specs.declared.Opened.{Opened}
 use Rattle.lookup.specs.Layout.{rowOf, slotOf}
+use Rattle.lookup.specs.View.{editionIn}
 
 -- "A key is held while its set isn't empty"
 abbrev pub isHeld : Map → Bool
@@ -31,6 +33,13 @@ judgedBy widthOf m = cond (not (isHeld m)) (plain 11) (judged (judge widthOf m))
 -- the key's map as its row has it, also in conflict: what it held when the conflict came. No answer about a key is made of that
 unfoldable pub mapAs : List ℕ → Key → Map
 mapAs t k = cond (ltb (slotOf t (keyNumber k)) mostKeys) (rowAs (rowOf t (slotOf t (keyNumber k)))) Nothing
+
+-- "Judgement, pack and read use that edition's widths" (02, Req 10): the dictionary of a row, and of a key
+abbrev pub widthRow : List ℕ → ℕ → ℕ
+widthRow row = widthBy (formEdition (formWord row))
+
+abbrev pub widthFor : List ℕ → Key → ℕ → ℕ
+widthFor t k = widthBy (editionIn t k)
 
 -- ---- what is laid into the lists that are lent
 

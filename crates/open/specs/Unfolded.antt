@@ -7,15 +7,14 @@ use mathlib.Core.List.{List, _++_}
 use lib.Dec.{eqb}
 use lib.ListN.{getD, drop}
 use Rattle.words.specs.Lists.{tabulate}
-use Rattle.dictionary.specs.Dictionary.{widthOf}
 use Rattle.judge.specs.Judge.{Param, measured, mark}
 use Rattle.keyrow.specs.Row.{formWord}
 use Rattle.keyrow.specs.View.{headOf, placeIn}
-use Rattle.open.specs.Open.{reach}
+use Rattle.open.specs.Open.{widthRow, reach}
 
--- what a row says of each position, with the dictionary's widths
+-- what a row says of each position, with the widths of its edition
 abbrev pub paramsIn : List ℕ → ℕ → Option Param
-paramsIn row p = measured widthOf (placeIn row) p
+paramsIn row p = measured (widthRow row) (placeIn row) p
 
 -- a list into which a number of each of the first m positions is laid; past them it holds what it held
 unfoldable pub unfolded : (Option Param → ℕ) → List ℕ → ℕ → List ℕ → List ℕ

@@ -6,11 +6,10 @@ ghost use Prim.Native.Nat.{_≤_};
 ghost use lib.Dec.{eqb};
 ghost use lib.ListN.{length};
 ghost use Rattle.answers.specs.Answers.{saidOf};
-ghost use Rattle.dictionary.specs.Dictionary.{widthOf};
 ghost use Rattle.judge.specs.Judge.{spnIn, startIn, mark, judge as judgementOf};
 ghost use Rattle.keyrow.specs.Row.{rowWords, positions, keyOf};
 ghost use Rattle.keyrow.specs.View.{rowMap, rowAs};
-ghost use Rattle.open.specs.Open.{mapAs, markedWidth, reach, openedIn, openedBy};
+ghost use Rattle.open.specs.Open.{mapAs, widthRow, widthFor, markedWidth, reach, openedIn, openedBy};
 ghost use Rattle.open.specs.Unfolded.{unfolded, unfoldedIn, markedTo};
 use answers::Answer;
 use answers::Judgement;
@@ -80,7 +79,7 @@ fn mark_missing(row: &[u64], n: usize, widths: &mut [u32])
     }
 }
 
-// Unfolds the first n cells of a row as SPNs, starts and widths. Every width that a call uses comes from here, from one look-up of all SPNs.
+// Unfolds the first n cells of a row as SPNs, starts and widths. Every width that a call uses comes from here, from one look-up of all SPNs by the row's edition.
 fn unfold_row(row: &[u64], n: usize, spns: &mut [u32], starts: &mut [u32], widths: &mut [u32])
     requires { ⌜ (length (now row) ≡ rowWords) × (n ≤ positions) × (length (now spns) ≡ positions) × (length (now starts) ≡ positions) × (length (now widths) ≡ positions) ⌝ }
     ensures { λ _. ⌜ (now (spns .exit) ≡ unfolded spnIn (now (row .entry)) n (now (spns .entry)))
@@ -88,14 +87,15 @@ fn unfold_row(row: &[u64], n: usize, spns: &mut [u32], starts: &mut [u32], width
         × (now (widths .exit) ≡ unfolded markedWidth (now (row .entry)) n (now (widths .entry))) ⌝ }
 {
     lay_places(row, n, spns, starts);
-    dictionary::widths_of(&spns[..n], widths);
+    let edition = keyrow::edition_of(row[FORM]);
+    dictionary::widths_of(edition, &spns[..n], widths);
     mark_missing(row, n, widths);
 }
 
 // Unfolds a row as far as its n asks, and judges its map. A position past the 64 is missing.
 fn judge_row(row: &[u64], spns: &mut [u32], starts: &mut [u32], widths: &mut [u32]) -> Judgement
     requires { ⌜ (length (now row) ≡ rowWords) × (length (now spns) ≡ positions) × (length (now starts) ≡ positions) × (length (now widths) ≡ positions) ⌝ }
-    ensures { λ r. ⌜ (saidOf r ≡ judgementOf widthOf (rowMap (now (row .entry)))) × (now (spns .exit) ≡ unfoldedIn spnIn (now (row .entry)) (now (spns .entry)))
+    ensures { λ r. ⌜ (saidOf r ≡ judgementOf (widthRow (now (row .entry))) (rowMap (now (row .entry)))) × (now (spns .exit) ≡ unfoldedIn spnIn (now (row .entry)) (now (spns .entry)))
         × (now (starts .exit) ≡ unfoldedIn startIn (now (row .entry)) (now (starts .entry)))
         × (now (widths .exit) ≡ unfoldedIn markedWidth (now (row .entry)) (now (widths .entry))) ⌝ }
 {
@@ -111,7 +111,7 @@ fn judge_row(row: &[u64], spns: &mut [u32], starts: &mut [u32], widths: &mut [u3
 fn open_row(row: &[u64], spns: &mut [u32], starts: &mut [u32], widths: &mut [u32]) -> Opened
     requires { ⌜ (length (now row) ≡ rowWords) × (length (now spns) ≡ positions) × (length (now starts) ≡ positions) × (length (now widths) ≡ positions) ⌝ }
     ensures { λ r. ⌜ openedIn r (now (spns .exit)) (now (starts .exit)) (now (widths .exit))
-        ≡ openedBy widthOf (rowMap (now (row .entry))) (rowAs (now (row .entry))) (now (spns .entry)) (now (starts .entry)) (now (widths .entry)) ⌝ }
+        ≡ openedBy (widthRow (now (row .entry))) (rowMap (now (row .entry))) (rowAs (now (row .entry))) (now (spns .entry)) (now (starts .entry)) (now (widths .entry)) ⌝ }
 {
     let judgement = judge_row(row, spns, starts, widths);
     let head = keyrow::head_of(row[FORM]);
@@ -127,7 +127,7 @@ fn open_row(row: &[u64], spns: &mut [u32], starts: &mut [u32], widths: &mut [u32
 // ---- the call
 
 // Opens a key's map: 11, and the arrays are left as they were; else 0 with the judgement, n and the flags, and SPN, start and width of each position from 1 to
-// n, at most 64, over the start of the arrays. The width is `judge::MISSING` where nothing stands, and 0 where the dictionary does not have the SPN. Of a
+// n, at most 64, over the start of the arrays. The width is `judge::MISSING` where nothing stands, and 0 where the dictionary of the key's edition does not have the SPN. Of a
 // key in conflict the row is read as it stood when the conflict came.
 pub fn open(
     t: &[u64; WORDS],
@@ -139,8 +139,8 @@ pub fn open(
     widths: &mut [u32; POSITIONS],
 ) -> Opened
     ensures { λ r. ⌜ openedIn r (now (spns .exit)) (now (starts .exit)) (now (widths .exit))
-        ≡ openedBy widthOf (mapIn (now (t .entry)) (keyOf source destination k)) (mapAs (now (t .entry)) (keyOf source destination k))
-        (now (spns .entry)) (now (starts .entry)) (now (widths .entry)) ⌝ }
+        ≡ openedBy (widthFor (now (t .entry)) (keyOf source destination k)) (mapIn (now (t .entry)) (keyOf source destination k))
+        (mapAs (now (t .entry)) (keyOf source destination k)) (now (spns .entry)) (now (starts .entry)) (now (widths .entry)) ⌝ }
 {
     let row = lookup::row_of(t, source, destination, k);
     if row.len() == 0 {

@@ -1,9 +1,9 @@
--- The rows of the dictionary and their rule (01, "A set and its judgement").
+-- The rows of the two dictionaries, that of 002 and the older one of 000, and their rule (01, "A set and its judgement"; 02, Req 10).
 -- Assumes nothing.
 use Prim.Native.Nat.{ℕ, suc}
-use mathlib.Core.Bool.{Bool, true, _&&_}
+use mathlib.Core.Bool.{Bool, true, cond, _&&_}
 use mathlib.Core.List.{List, [], _∷_, map}
-use lib.Dec.{leb}
+use lib.Dec.{eqb, leb}
 use lib.ListN.{getD}
 
 -- a row: an SPN and the width of its parameter in bits
@@ -176,9 +176,41 @@ table =
 abbrev pub rowAt : ℕ → Row
 rowAt i = rowIn table i
 
--- a row as the code's table has it, SPN and width, and all rows so
+-- "Older combines follow the 2004 paper (source document 000)": each SPN in 000 with a fixed length of 1 to 32 bits, all of them in its 5.3, with its width
+unfoldable pub table2004 : List Row
+table2004 =
+    row 3146 24 ∷
+    row 3147 19 ∷
+    row 3148 5 ∷
+    row 3149 1 ∷
+    row 3150 1 ∷
+    row 3151 1 ∷
+    row 3152 5 ∷
+    row 3153 8 ∷
+    row 3154 19 ∷
+    row 3155 8 ∷
+    row 3329 8 ∷
+    row 3330 24 ∷
+    []
+
+-- "Keep both dictionaries": the rows of an edition, 000's of 2004 and 002's of any other number
+abbrev pub rowsBy : ℕ → List Row
+rowsBy edition = cond (eqb edition 2004) table2004 table
+
+-- ---- rows as the code's tables have them: SPN and width
+
 abbrev pub pair : Row → List ℕ
 pair r = r .spn ∷ r .width ∷ []
 
 unfoldable pub pairs : List (List ℕ)
 pairs = map pair table
+
+unfoldable pub pairs2004 : List (List ℕ)
+pairs2004 = map pair table2004
+
+-- and back: the rows that such pairs stand for
+abbrev pub rowOfPair : List ℕ → Row
+rowOfPair p = row (getD p 0 0) (getD p 1 0)
+
+abbrev pub rowsIn : List (List ℕ) → List Row
+rowsIn ps = map rowOfPair ps

@@ -1,11 +1,13 @@
 // The rows of the dictionary as a const table: each SPN that 002 defines with a fixed length of 1 to 32 bits, once, in rising order, with its width
-// (01, "A set and its judgement"; 002, Appendix C and 5.3). tools/rowscheck compares them with 002's text. The crate is slow to check,
-// so it holds the table alone; its rule is tested in the crate rowrule, and the look-up is the crate dictionary's.
+// (01, "A set and its judgement"; 002, Appendix C and 5.3); and beside it those of the older paper, 000 (02, Req 10). tools/rowscheck compares them with the texts. The
+// crate is slow to check, so it holds the tables alone; their rule is tested in the crate rowrule, and the look-up is the crate dictionary's.
 ghost use mathlib.Core.Path.{_≡_};
-ghost use Rattle.rowrule.specs.Rows.{pairs};
+ghost use Rattle.rowrule.specs.Rows.{pairs, pairs2004};
 
 // How many rows there are.
 pub const COUNT: usize = 140;
+
+pub const COUNT_2004: usize = 12;
 
 // Rows of SPN and width.
 const ROWS: [[u32; 2]; 140] = [
@@ -157,4 +159,27 @@ pub fn all() -> [[u32; 2]; COUNT]
     ensures { λ r. ⌜ r ≡ pairs ⌝ }
 {
     ROWS
+}
+
+// Rows of SPN and width of the edition of 2004.
+const ROWS_2004: [[u32; 2]; 12] = [
+    [3146, 24],
+    [3147, 19],
+    [3148, 5],
+    [3149, 1],
+    [3150, 1],
+    [3151, 1],
+    [3152, 5],
+    [3153, 8],
+    [3154, 19],
+    [3155, 8],
+    [3329, 8],
+    [3330, 24],
+];
+
+// All rows of the edition of 2004.
+pub fn all_2004() -> [[u32; 2]; COUNT_2004]
+    ensures { λ r. ⌜ r ≡ pairs2004 ⌝ }
+{
+    ROWS_2004
 }

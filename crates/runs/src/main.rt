@@ -17,7 +17,10 @@
 //   13 key, room, payload, states    what read answers, and the two whole rooms
 //   14 key, position                 what parameter_at answers, with SPN, start and width
 //   15 chunks, buffer                what the listing of a log in chunks answers, and the whole buffer as text
+//   16 key, edition                  what set_edition answers
+//   17 key                           the key's edition
 mod asks;
+mod editions;
 mod filters;
 mod keys;
 mod logs;
@@ -34,7 +37,8 @@ fn run(w: &mut [u32; ports::WORDS], t: &mut [u64; lookup::WORDS], b: &[u8; 14]) 
         1..=3 => filters::run(w, b),
         4..=9 => keys::run(t, b),
         10..=14 => asks::run(t, b),
-        _ => logs::run(t, b),
+        15 => logs::run(t, b),
+        _ => editions::run(t, b),
     }
 }
 

@@ -4,7 +4,7 @@ use native.Mathlib.Nat.{not-suc-le-zero}
 use mathlib.Core.Path.{_≡_, refl, sym, ap, _∙_}
 use mathlib.Core.Bool.{Bool, true, false, cond, _&&_}
 use mathlib.Core.Option.{Option, none, some}
-use mathlib.Core.List.{List, [], _∷_}
+use mathlib.Core.List.{List, []}
 use borrow.Author.Tests.{eqb-true, eqb-false}
 use lib.Dec.{eqb, leb}
 use lib.ListN.{getD}
@@ -14,7 +14,6 @@ use Rattle.answers.specs.Answers.{Said, saidOf, inNumbers}
 use Rattle.text.specs.Text.{Page, put, putAll}
 use Rattle.message.specs.declared.Head.{Head}
 use Rattle.message.specs.declared.Place.{Place}
-use Rattle.dictionary.specs.Dictionary.{widthOf}
 use Rattle.maps.specs.Maps.{Map, Nothing, Conflict, Held}
 use Rattle.judge.specs.Judge.{usable}
 use Rattle.keyrow.specs.Row.{stateWord, formWord}
@@ -26,9 +25,9 @@ use Rattle.image.specs.Write.{placeOr}
 use Rattle.save.specs.Pieces.{bodyPieces, mapPieces}
 
 -- what judging answers says whether a key is saved
-pub saved-is : (M : Map) (a : Answer) → inNumbers a ≡ judgedBy widthOf M → (eqb (a .number) 0 && eqb (saidOf (a .judgement) .number) 0) ≡ usable widthOf M
+pub saved-is : (widthOf : ℕ → ℕ) (M : Map) (a : Answer) → inNumbers a ≡ judgedBy widthOf M → (eqb (a .number) 0 && eqb (saidOf (a .judgement) .number) 0) ≡ usable widthOf M
 unfolding judgedBy
-saved-is M a e = ap (λ (s : Said). eqb (s .number) 0 && eqb (s .judgement) 0) e ∙ go M
+saved-is widthOf M a e = ap (λ (s : Said). eqb (s .number) 0 && eqb (s .judgement) 0) e ∙ go M
   where
     go : (M : Map) → (eqb (judgedBy widthOf M .number) 0 && eqb (judgedBy widthOf M .judgement) 0) ≡ usable widthOf M
     go Nothing = refl
@@ -72,9 +71,9 @@ module _ (M : Map) where
   unfolding putAll
   saved-none q s e = rw e (test s (λ t. rw t) (λ f. rw f))
 
-  pub saved-held : (row : List ℕ) (q r : Page) (s : Bool) → s ≡ usable widthOf M → s ≡ true → M ≡ rowMap row
+  pub saved-held : (widthOf : ℕ → ℕ) (row : List ℕ) (q r : Page) (s : Bool) → s ≡ usable widthOf M → s ≡ true → M ≡ rowMap row
       → r ≡ putAll q (bodyPieces (headOf (formWord row)) (placeIn row) 1 (headOf (formWord row) .n)) → r ≡ putAll q (cond s (mapPieces M) [])
-  saved-held row q r s v u e w =
+  saved-held widthOf row q r s v u e w =
       test (eqb (stateWord row) 1)
       (λ y. let m : M ≡ Held (headOf (formWord row)) (placeIn row) = e ∙ row-held row (eqb-true (stateWord row) 1 y) in
       w ∙ ap (λ (N : Map). putAll q (mapPieces N)) (sym m) ∙ ap (λ (b : Bool). putAll q (cond b (mapPieces M) [])) (sym u))

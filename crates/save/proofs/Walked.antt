@@ -14,11 +14,9 @@ use Rattle.words.proofs.Tests.{test}
 use Rattle.text.specs.Text.{Page, put, putAll}
 use Rattle.text.proofs.Pieces.{put-more}
 use Rattle.message.specs.declared.Key.{Key}
-use Rattle.dictionary.specs.Dictionary.{widthOf}
-use Rattle.judge.specs.Judge.{usable}
-use Rattle.lookup.specs.View.{mapIn}
+use Rattle.lookup.specs.View.{mapIn, editionIn}
 use Rattle.lookup.specs.Next.{nextKey, walk}
-use Rattle.image.specs.Write.{bodyOf, rowBytes, bodiesOf}
+use Rattle.image.specs.Write.{bodyOf, rowBytes, bodiesOf, isSaved}
 use Rattle.save.specs.Pieces.{mapPieces, marks, rowPieces, bodiesPieces}
 
 pub one-piece : (p r : Page) (x : List ℕ) → r ≡ put (p .bytes) (p .at) x → r ≡ putAll p (x ∷ [])
@@ -31,7 +29,7 @@ no-piece p = refl
 
 module _ (t : List ℕ) where
   abbrev chosen : Key → Bool
-  chosen k = usable widthOf (mapIn t k)
+  chosen k = isSaved t k
 
   -- the saved keys that a walk still comes to
   abbrev pub rest : ℕ → Option Key → List Key
@@ -53,11 +51,11 @@ module _ (t : List ℕ) where
         rw (step, ← u, v)
         (test s (λ y. rw (y, length-append (bodyOf (mapIn t k)) (bodiesOf (mapIn t) (rest m later))) (omega arith)) (λ z. rw z (omega arith)))
 
-    pub rows-turn : (from len : ℕ) (s : Bool) (q r : Page) → s ≡ chosen k → len ≡ cond s (length (bodyOf (mapIn t k))) 0 → r ≡ putAll q (cond s (rowBytes k from len ∷ []) [])
-        → putAll r (rowPieces (mapIn t) (from + len) (rest m later)) ≡ putAll q (rowPieces (mapIn t) from (rest n next))
+    pub rows-turn : (form from len : ℕ) (s : Bool) (q r : Page) → s ≡ chosen k → len ≡ cond s (length (bodyOf (mapIn t k))) 0 → r ≡ putAll q (cond s (rowBytes form k (editionIn t k) from len ∷ []) [])
+        → putAll r (rowPieces form (editionIn t) (mapIn t) (from + len) (rest m later)) ≡ putAll q (rowPieces form (editionIn t) (mapIn t) from (rest n next))
     unfolding putAll rowPieces
-    rows-turn from len s q r u v w =
-        ap (λ (x : Page). putAll x (rowPieces (mapIn t) (from + len) (rest m later))) w
+    rows-turn form from len s q r u v w =
+        ap (λ (x : Page). putAll x (rowPieces form (editionIn t) (mapIn t) (from + len) (rest m later))) w
         ∙ test s (λ y. let l : len ≡ length (bodyOf (mapIn t k)) = v ∙ rw y in rw (y, l, step, ← u, y))
         (λ z. let l : len ≡ 0 = v ∙ rw z in let o : from + 0 ≡ from = omega arith in rw (z, l, o, step, ← u, z))
 
@@ -109,9 +107,9 @@ module _ (t : List ℕ) where
   unfolding walk
   rest-done n next e = rw e
 
-  pub rows-end : (n from : ℕ) (next : Option Key) (p : Page) → rest n next ≡ [] → p ≡ putAll p (rowPieces (mapIn t) from (rest n next))
+  pub rows-end : (form n from : ℕ) (next : Option Key) (p : Page) → rest n next ≡ [] → p ≡ putAll p (rowPieces form (editionIn t) (mapIn t) from (rest n next))
   unfolding putAll rowPieces
-  rows-end n from next p e = rw e
+  rows-end form n from next p e = rw e
 
   pub bodies-end : (n : ℕ) (next : Option Key) (p : Page) → rest n next ≡ [] → p ≡ putAll p (bodiesPieces (mapIn t) (rest n next))
   unfolding putAll bodiesPieces

@@ -8,14 +8,11 @@ use lib.ListN.{length}
 use Rattle.message.specs.declared.Key.{Key}
 use Rattle.message.specs.declared.Head.{Head}
 use Rattle.message.specs.declared.Place.{Place}
-use Rattle.dictionary.specs.Dictionary.{widthOf}
 use Rattle.maps.specs.Maps.{Map, Nothing, Conflict, Held}
-use Rattle.judge.specs.Judge.{usable}
 use Rattle.history.specs.History.{mostKeys}
-use Rattle.lookup.specs.View.{mapIn}
 use Rattle.lookup.specs.Next.{firstKey, nextKey}
 use Rattle.written.specs.Written.{fiveOf}
-use Rattle.image.specs.Write.{placeOr, bodyOf, rowBytes, behind}
+use Rattle.image.specs.Write.{placeOr, bodyOf, rowBytes, behind, isSaved}
 
 -- a body, position by position
 unfoldable pub bodyPieces : Head → (ℕ → Option Place) → ℕ → ℕ → List (List ℕ)
@@ -31,19 +28,20 @@ mapPieces (Held h places) = bodyPieces h places 1 (h .n)
 unfoldable pub marks : ℕ → List ℕ → Option Key → List ℕ
 marks zero t next = []
 marks (suc n) t none = 0 ∷ marks n t none
-marks (suc n) t (some k) = cond (usable widthOf (mapIn t k)) 1 0 ∷ marks n t (nextKey t k)
+marks (suc n) t (some k) = cond (isSaved t k) 1 0 ∷ marks n t (nextKey t k)
 
 abbrev pub marksOf : List ℕ → List ℕ
 marksOf t = marks mostKeys t (firstKey t)
 
 module _ (map : Key → Map) where
-  unfoldable pub rowPieces : ℕ → List Key → List (List ℕ)
-  rowPieces at [] = []
-  rowPieces at (k ∷ ks) = rowBytes k at (length (bodyOf (map k))) ∷ rowPieces (at + length (bodyOf (map k))) ks
-
   unfoldable pub bodiesPieces : List Key → List (List ℕ)
   bodiesPieces [] = []
   bodiesPieces (k ∷ ks) = mapPieces (map k) ++ bodiesPieces ks
 
+module _ (form : ℕ) (edition : Key → ℕ) (map : Key → Map) where
+  unfoldable pub rowPieces : ℕ → List Key → List (List ℕ)
+  rowPieces at [] = []
+  rowPieces at (k ∷ ks) = rowBytes form k (edition k) at (length (bodyOf (map k))) ∷ rowPieces (at + length (bodyOf (map k))) ks
+
   abbrev pub imagePieces : List Key → List (List ℕ)
-  imagePieces ks = (1 ∷ length ks ∷ []) ∷ (rowPieces (behind (length ks)) ks ++ bodiesPieces ks)
+  imagePieces ks = (form ∷ length ks ∷ []) ∷ (rowPieces (behind form (length ks)) ks ++ bodiesPieces map ks)

@@ -1,4 +1,4 @@
-// Saving a learned table as an image (02, Req 01), straight into the caller's buffer. Each key is judged once; whatever the words hold, each call has its defined
+// Saving a learned table as an image (02, Req 01 and 10), straight into the caller's buffer. Each key is judged once; whatever the words hold, each call has its defined
 // answer.
 ghost use mathlib.Core.Path.{_≡_};
 ghost use mathlib.Core.Bool.{cond};
@@ -8,14 +8,13 @@ ghost use lib.ListN.{length};
 ghost use Rattle.answers.specs.Answers.{inNumbers, outcome};
 ghost use Rattle.splice.specs.Splice.{laid};
 ghost use Rattle.text.specs.Text.{page, putAll};
-ghost use Rattle.dictionary.specs.Dictionary.{widthOf};
-ghost use Rattle.judge.specs.Judge.{usable};
 ghost use Rattle.keyrow.specs.Row.{rowWords, formWord};
 ghost use Rattle.keyrow.specs.View.{headOf, placeOf, placeIn};
-ghost use Rattle.lookup.specs.View.{mapIn};
-ghost use Rattle.image.specs.Write.{placeOr, bodyOf, rowBytes, bodiesOf, savedKeys, imageOf, savedInto};
+ghost use Rattle.lookup.specs.View.{mapIn, editionIn};
+ghost use Rattle.image.specs.Write.{placeOr, bodyOf, editionByte, fullRow, rowSize, rowBytes, behind as behindOf, bodiesOf, isSaved, savedKeys, imageIn, imageOf, savedInto};
 ghost use Rattle.save.specs.Pieces.{bodyPieces, mapPieces, marksOf, rowPieces, bodiesPieces, imagePieces};
 use answers::Answer;
+use keyrow::EDITION_2004;
 use keyrow::FORM;
 use keyrow::POSITIONS;
 use lookup::Next;
@@ -25,15 +24,34 @@ use message::Key;
 use message::Place;
 
 // No table that calls have made has a longer image (law most-long): 16 rows with 31 positions each.
-pub const MOST: usize = 2594;
+pub const MOST: usize = 2610;
 
-// Byte 0 of an image.
-const ONE: u8 = 1;
+// The form of an image, its byte 0: form 1 has no editions, and is no longer written.
+pub const OLD: u8 = 1;
 
-// The bytes of a row, and those before the first.
-const ROW: usize = 7;
+pub const WRITTEN: u8 = 2;
 
-const BEFORE: usize = 2;
+// ---- the contents
+
+// How many bytes a row has in a form.
+pub fn row_size(form: u8) -> usize
+    ensures { λ r. ⌜ (r ≡ rowSize form) × (r ≤ 8) ⌝ }
+{
+    if form == OLD {
+        return 7;
+    }
+    8
+}
+
+// The first byte behind so many rows.
+pub fn behind(form: u8, count: u8) -> usize
+    ensures { λ r. ⌜ (r ≡ behindOf form count) × (r ≤ 2042) ⌝ }
+{
+    if form == OLD {
+        return 2 + 7 * count as usize;
+    }
+    2 + 8 * count as usize
+}
 
 // ---- a body
 
@@ -82,7 +100,7 @@ fn put_row_body(row: &[u64], out: &mut [u8], at: usize) -> usize
 
 // Lays the body of a key where it is saved.
 fn put_body(t: &[u64; WORDS], saved: bool, key: Key, out: &mut [u8], at: usize) -> usize
-    requires { ⌜ saved ≡ usable widthOf (mapIn (now t) key) ⌝ }
+    requires { ⌜ saved ≡ isSaved (now t) key ⌝ }
     ensures { λ r. ⌜ page r (now (out .exit)) ≡ putAll (page at (now (out .entry))) (cond saved (mapPieces (mapIn (now (t .entry)) key)) []) ⌝ }
 {
     if saved {
@@ -108,9 +126,19 @@ fn body_len(t: &[u64; WORDS], saved: bool, key: Key) -> usize
 
 // ---- a row
 
-// The 7 bytes of a row.
-fn row_bytes(key: Key, at: usize, len: usize) -> [u8; 7]
-    ensures { λ r. ⌜ r ≡ rowBytes key at len ⌝ }
+// The byte of an edition.
+fn edition_byte(edition: u32) -> u8
+    ensures { λ r. ⌜ r ≡ editionByte edition ⌝ }
+{
+    if edition == EDITION_2004 {
+        return 1;
+    }
+    0
+}
+
+// The bytes of a row, of which form 1 has all but the last.
+fn row_bytes(key: Key, edition: u32, at: usize, len: usize) -> [u8; 8]
+    ensures { λ r. ⌜ r ≡ fullRow key edition at len ⌝ }
 {
     [
         key.source,
@@ -120,25 +148,37 @@ fn row_bytes(key: Key, at: usize, len: usize) -> [u8; 7]
         (at / 256 % 256) as u8,
         (len % 256) as u8,
         (len / 256 % 256) as u8,
+        edition_byte(edition),
     ]
 }
 
 // Lays the row of a key that is saved.
-fn put_row(saved: bool, key: Key, out: &mut [u8], at: usize, from: usize, len: usize) -> usize
-    ensures { λ r. ⌜ page r (now (out .exit)) ≡ putAll (page at (now (out .entry))) (cond saved (rowBytes key from len ∷ []) []) ⌝ }
+fn put_row(
+    t: &[u64; WORDS],
+    form: u8,
+    saved: bool,
+    key: Key,
+    out: &mut [u8],
+    at: usize,
+    from: usize,
+    len: usize,
+) -> usize
+    ensures { λ r. ⌜ page r (now (out .exit)) ≡ putAll (page at (now (out .entry))) (cond saved (rowBytes form key (editionIn (now (t .entry)) key) from len ∷ []) []) ⌝ }
 {
     if saved {
-        let row = row_bytes(key, from, len);
-        return text::put_bytes(out, at, &row);
+        let edition = lookup::edition_of(t, key.source, key.destination, key.k);
+        let row = row_bytes(key, edition, from, len);
+        let n = row_size(form);
+        return text::put_bytes(out, at, &row[..n]);
     }
     at
 }
 
 // ---- which keys
 
-// Whether a key is saved: its map is usable.
+// Whether a key is saved: its map is usable by its edition.
 fn is_saved(t: &[u64; WORDS], key: Key) -> bool
-    ensures { λ r. ⌜ r ≡ usable widthOf (mapIn (now (t .entry)) key) ⌝ }
+    ensures { λ r. ⌜ r ≡ isSaved (now (t .entry)) key ⌝ }
 {
     let judged = ask::judge(t, key.source, key.destination, key.k);
     let judgement = judged.judgement;
@@ -198,9 +238,17 @@ fn choose(t: &[u64; WORDS]) -> Chosen
 // ---- the image
 
 // Lays the rows; the first body begins at `from`.
-fn put_rows(t: &[u64; WORDS], marks: &[u8; ROWS], out: &mut [u8], at: usize, from: usize) -> usize
-    requires { ⌜ (from ≤ 2000) × (now marks ≡ marksOf (now t)) ⌝ }
-    ensures { λ r. ⌜ page r (now (out .exit)) ≡ putAll (page at (now (out .entry))) (rowPieces (mapIn (now (t .entry))) from (savedKeys (now (t .entry)))) ⌝ }
+fn put_rows(
+    t: &[u64; WORDS],
+    form: u8,
+    marks: &[u8; ROWS],
+    out: &mut [u8],
+    at: usize,
+    from: usize,
+) -> usize
+    requires { ⌜ (from ≤ 2042) × (now marks ≡ marksOf (now t)) ⌝ }
+    ensures { λ r. ⌜ page r (now (out .exit))
+        ≡ putAll (page at (now (out .entry))) (rowPieces form (editionIn (now (t .entry))) (mapIn (now (t .entry))) from (savedKeys (now (t .entry)))) ⌝ }
 {
     let mut place = at;
     let mut body = from;
@@ -211,7 +259,7 @@ fn put_rows(t: &[u64; WORDS], marks: &[u8; ROWS], out: &mut [u8], at: usize, fro
             Next::Found(key) => {
                 let saved = marks[i] == 1;
                 let len = body_len(t, saved, key);
-                place = put_row(saved, key, out, place, body, len);
+                place = put_row(t, form, saved, key, out, place, body, len);
                 body += len;
                 next = lookup::next_key(t, key.source, key.destination, key.k);
             }
@@ -244,13 +292,14 @@ fn put_bodies(t: &[u64; WORDS], marks: &[u8; ROWS], out: &mut [u8], at: usize) -
 }
 
 // Lays the whole image.
-fn put_image(t: &[u64; WORDS], marks: &[u8; ROWS], count: u8, out: &mut [u8]) -> usize
+fn put_image(t: &[u64; WORDS], form: u8, marks: &[u8; ROWS], count: u8, out: &mut [u8]) -> usize
     requires { ⌜ (now marks ≡ marksOf (now t)) × (count ≡ length (savedKeys (now t))) ⌝ }
-    ensures { λ r. ⌜ page r (now (out .exit)) ≡ putAll (page 0 (now (out .entry))) (imagePieces (mapIn (now (t .entry))) (savedKeys (now (t .entry)))) ⌝ }
+    ensures { λ r. ⌜ page r (now (out .exit))
+        ≡ putAll (page 0 (now (out .entry))) (imagePieces form (editionIn (now (t .entry))) (mapIn (now (t .entry))) (savedKeys (now (t .entry)))) ⌝ }
 {
-    let first = [ONE, count];
+    let first = [form, count];
     let at = text::put_bytes(out, 0, &first);
-    let at = put_rows(t, marks, out, at, BEFORE + ROW * count as usize);
+    let at = put_rows(t, form, marks, out, at, behind(form, count));
     put_bodies(t, marks, out, at)
 }
 
@@ -261,20 +310,21 @@ pub fn size(t: &[u64; WORDS]) -> usize
     ensures { λ r. ⌜ r ≡ length (imageOf (now (t .entry))) ⌝ }
 {
     let chosen = choose(t);
-    BEFORE + ROW * chosen.count as usize + chosen.bodies
+    behind(WRITTEN, chosen.count) + chosen.bodies
 }
 
-// Lays the image of a table over the start of `out` where it has room, and says how many bytes it has; else nothing is laid.
-pub fn lay(t: &[u64; WORDS], out: &mut [u8]) -> usize
-    ensures { λ r. ⌜ (r ≡ length (imageOf (now (t .entry)))) × (now (out .exit) ≡ laid (now (out .entry)) 0 (imageOf (now (t .entry)))) ⌝ }
+// Lays the image of a table in a form over the start of `out` where it has room, and says how many bytes it has; else nothing is laid. Another form than that which is
+// written is laid to be compared alone.
+pub fn lay(t: &[u64; WORDS], form: u8, out: &mut [u8]) -> usize
+    ensures { λ r. ⌜ (r ≡ length (imageIn form (now (t .entry)))) × (now (out .exit) ≡ laid (now (out .entry)) 0 (imageIn form (now (t .entry)))) ⌝ }
 {
     let chosen = choose(t);
     let marks = chosen.marks;
-    let n = BEFORE + ROW * chosen.count as usize + chosen.bodies;
+    let n = behind(form, chosen.count) + chosen.bodies;
     if out.len() < n {
         return n;
     }
-    put_image(t, &marks, chosen.count, out)
+    put_image(t, form, &marks, chosen.count, out)
 }
 
 // Saves a table: 13, and nothing is written, where the buffer is too short for its image; else 0, and the bytes past the image keep what they held.
@@ -282,7 +332,7 @@ pub fn save(t: &[u64; WORDS], out: &mut [u8]) -> Answer
     ensures { λ r. ⌜ outcome (inNumbers r) (now (out .exit)) ≡ savedInto (now (t .entry)) (now (out .entry)) ⌝ }
 {
     let room = out.len();
-    let n = lay(t, out);
+    let n = lay(t, WRITTEN, out);
     if room < n {
         return answers::plainly(13);
     }

@@ -1,8 +1,8 @@
 // Prints what a shelf is set from (./shelf; tools/shelf.py sets it), a line a fact: what a log taught, or, with a second word as its argument, what an image holds. Log or image
 // comes on standard input. All that matters is proved in the crates that are called; of a damaged image nothing is printed, and a line on standard error says so.
-//   key SOURCE DESTINATION K JUDGEMENT POSITION N TRANSPORT    a held key, rising, with its judgement and the position that this names; N and TRANSPORT (1 yes) are 0 in conflict
-//   at POSITION SPN START WIDTH                                what stands at a position of the key above; the width is 0 where the dictionary does not have the SPN
-//   end RECORDS REFUSED OTHER LEFT                             the counts of the listing, all 0 for an image: with this line the facts are whole
+//   key SOURCE DESTINATION K JUDGEMENT POSITION N TRANSPORT EDITION    a held key, rising, with its judgement and the position that this names; N and TRANSPORT (1 yes) are 0 in conflict
+//   at POSITION SPN START WIDTH                                        what stands at a position of the key above; the width is 0 where the key's edition does not have the SPN
+//   end RECORDS REFUSED OTHER LEFT                                     the counts of the listing, all 0 for an image: with this line the facts are whole
 use feeding::Tally;
 use keyrow::POSITIONS;
 use libc::STDERR_FILENO;
@@ -73,6 +73,7 @@ fn print_key(t: &[u64; WORDS], key: Key) -> bool {
             answers::position_of(j) as u64,
             n as u64,
             transport_of(t, key, n),
+            lookup::edition_of(t, key.source, key.destination, key.k) as u64,
         ],
     );
     print_positions(t, key, n) & first

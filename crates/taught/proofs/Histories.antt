@@ -8,7 +8,7 @@ use lib.ListN.{getD}
 use Rattle.words.proofs.Tests.{test}
 use Rattle.message.specs.declared.Message.{Message}
 use Rattle.message.specs.Message.{heard}
-use Rattle.history.specs.History.{Event, Learn, Forget, counts, kept}
+use Rattle.history.specs.History.{Event, Learn, Forget, Edition, counts, kept}
 use Rattle.history.specs.Frames.{learns}
 use Rattle.learned.specs.Events.{InWords, AllInWords}
 use Rattle.written.specs.Written.{Teachable}
@@ -48,6 +48,7 @@ teachable-in-words m t = record {
 event-in-words : (e : Event) → Taught e → InWords e
 event-in-words (Learn m) u = teachable-in-words m u
 event-in-words (Forget k) u = record { key = u; row = tt }
+event-in-words (Edition k e) u = record { key = u; row = tt }
 
 pub taught-in-words : (h : List Event) → AllTaught h → AllInWords h
 taught-in-words [] u = tt

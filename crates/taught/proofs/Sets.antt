@@ -13,7 +13,8 @@ use Rattle.message.specs.declared.Message.{Message}
 use Rattle.maps.specs.Maps.{sameKey, Map, Held, mapOf, IsMap, Says}
 use Rattle.maps.proofs.Tests.{key-eq}
 use Rattle.maps.proofs.Maps.{is-map}
-use Rattle.history.specs.History.{Event, Learn, Forget, since, setOf, kept}
+use Rattle.history.specs.History.{Event, Learn, Forget, Edition, since, setOf, kept}
+use Rattle.history.proofs.Since.{since-edition}
 use Rattle.written.specs.Written.{Teachable}
 use Rattle.taught.specs.Taught.{AllTaught}
 use Rattle.taught.proofs.Histories.{taught-kept}
@@ -29,6 +30,7 @@ since-taught (Learn j ∷ h) u k m i =
     (λ f. since-taught h (u .1) k m (rw f at i))
 since-taught (Forget j ∷ h) u k m i =
     test (sameKey j k) (λ t. absurd (List·Memᴰ·not-nil (rw t at i))) (λ f. since-taught h (u .1) k m (rw f at i))
+since-taught (Edition j e ∷ h) u k m i = since-taught h (u .1) k m (rw (since-edition j e h k) at i)
 
 pub set-taught : (h : List Event) → AllTaught h → (k : Key) (m : Message) → List·Memᴰ m (setOf h k) → Teachable m × (m .key ≡ k)
 set-taught h u = since-taught (kept h) (taught-kept h u)

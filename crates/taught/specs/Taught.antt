@@ -2,14 +2,15 @@
 -- frames. Assumes nothing.
 use mathlib.Core.List.{List, [], _∷_}
 use Rattle.message.specs.declared.Message.{Message}
-use Rattle.history.specs.History.{Event, Learn, Forget}
+use Rattle.history.specs.History.{Event, Learn, Forget, Edition}
 use Rattle.keyrow.specs.Row.{InBytes}
 use Rattle.written.specs.Written.{Teachable}
 
--- a frame can teach the message; a forget names a key of bytes
+-- a frame can teach the message; a forget and an edition name a key of bytes
 abbrev pub Taught : Event → Type 0
 Taught (Learn m) = Teachable m
 Taught (Forget k) = InBytes k
+Taught (Edition k e) = InBytes k
 
 abbrev pub AllTaught : List Event → Type 0
 AllTaught [] = Unit {0}

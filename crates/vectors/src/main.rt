@@ -12,13 +12,14 @@
 //   8 SPNs, starts, widths           number and position of the judgement
 //   9 starts, widths, numbers        what pack answers, and the whole buffer, filled by a seed before the call
 //   10 the same, and a payload       what read answers, and the whole room, which held those numbers before the call
+//   11 SPN, edition                  its width in that edition
 mod lists;
 mod rooms;
 
 use libc::STDIN_FILENO;
 
 fn run(b: &[u8; 14]) {
-    if b[0] < 8 {
+    if (b[0] < 8) | (b[0] == 11) {
         rooms::run(b);
     } else {
         lists::run(b);

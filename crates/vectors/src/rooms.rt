@@ -98,7 +98,11 @@ fn found(f: Found) {
 
 fn row(spn: u32) {
     found(dictionary::row_of(spn));
-    more(dictionary::width_of(spn));
+    more(dictionary::width_of(2010, spn));
+}
+
+fn width(edition: u32, spn: u32) {
+    first((dictionary::width_of(edition, spn) % 256) as u8);
 }
 
 // A case of 13 bytes: a word and further bytes.
@@ -120,7 +124,8 @@ pub(crate) fn run(b: &[u8; 14]) {
             third: b[3],
         }),
         6 => row(w),
-        _ => first(message::is_miscounted(b[1], b[2], b[3]) as u8),
+        7 => first(message::is_miscounted(b[1], b[2], b[3]) as u8),
+        _ => width(four(b[5], b[6], b[7], b[8]), w),
     }
     end();
 }

@@ -7,12 +7,11 @@ use denote.Ref.{now}
 use borrow.Author.Needs.{needs}
 use lib.Seq.{length-take-le}
 use Rattle.answers.specs.Answers.{Said, inNumbers}
-use Rattle.dictionary.specs.Dictionary.{widthOf}
 use Rattle.dictionary.proofs.Table.{width-most}
 use Rattle.judge.specs.Judge.{usable}
 use Rattle.keyrow.specs.Row.{keyOf}
 use Rattle.lookup.specs.View.{mapIn}
-use Rattle.open.specs.Open.{judgedBy}
+use Rattle.open.specs.Open.{widthFor, judgedBy}
 use Rattle.open.proofs.InHand.{answer-is, starts-long, widths-long, n-is, n-few, starts-are, widths-are}
 use Rattle.ask.specs.Parts.{readyBy}
 use Rattle.ask.proofs.Calls.{ready-usable, read-unready, read-told}
@@ -22,19 +21,19 @@ use Rattle.ask.proofs.read.Tie as tie
 -- the tests 11 and 12, by the key's map
 tested : (c : tie.After-ready) →
     let s = c .before .before .before .before .before .before .before .before .args in
-    inNumbers (c .ready .result) ≡ readyBy (judgedBy widthOf (mapIn (now (s .t)) (keyOf (s .source) (s .destination) (s .k))))
+    inNumbers (c .ready .result) ≡ readyBy (judgedBy (widthFor (now (s .t)) (keyOf (s .source) (s .destination) (s .k))) (mapIn (now (s .t)) (keyOf (s .source) (s .destination) (s .k))))
 tested c = c .ready .ensures ∙ ap readyBy (answer-is _ _ _ _ _ _ (c .before .«open» .ensures))
 
 returns : tie.Need-returns
 returns c =
     let s = c .before .before .before .before .before .before .before .before .before .before .args in
-    read-unready widthOf _ _ (tested (c .before .before)) (c .if1 .taken) (now (s .payload)) (now (s .room)) (now (s .states))
+    read-unready _ _ _ (tested (c .before .before)) (c .if1 .taken) (now (s .payload)) (now (s .room)) (now (s .states))
 
 -- past these tests the map is usable
 good : (c : tie.After-struct-known2) →
     let s = c .before .before .before .before .before .before .before .before .before .before .before .args in
-    usable widthOf (mapIn (now (s .t)) (keyOf (s .source) (s .destination) (s .k))) ≡ true
-good c = ready-usable widthOf _ (sym (ap (λ (a : Said). a .number) (tested (c .before .before .before))) ∙ c .before .if1 .left)
+    usable (widthFor (now (s .t)) (keyOf (s .source) (s .destination) (s .k))) (mapIn (now (s .t)) (keyOf (s .source) (s .destination) (s .k))) ≡ true
+good c = ready-usable _ _ (sym (ap (λ (a : Said). a .number) (tested (c .before .before .before))) ∙ c .before .if1 .left)
 
 few : (c : tie.After-struct-known2) → c .before .before .before .before .«open» .result .n ≤ 64
 few c = n-few _ _ _ _ _ _ (c .before .before .before .before .«open» .ensures) (good c)
@@ -58,7 +57,7 @@ returns-2 c =
     let u = good d in
     let e = d .before .before .before .before .«open» .ensures in
     c .before .before .before .before .read-with .ensures
-    ∙ read-told widthOf width-most _ u (omega (arith, n-is _ _ _ _ _ _ e u, few d)) _ _ (starts-are _ _ _ _ _ _ e u, widths-are _ _ _ _ _ _ e u) _ _ _
+    ∙ read-told _ (width-most _) _ u (omega (arith, n-is _ _ _ _ _ _ e u, few d)) _ _ (starts-are _ _ _ _ _ _ e u, widths-are _ _ _ _ _ _ e u) _ _ _
 
 pub read-spec : {M : Type 1} → statement M
 read-spec =

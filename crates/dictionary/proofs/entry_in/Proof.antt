@@ -6,8 +6,9 @@ use native.Mathlib.Omega.{arith}
 use borrow.Author.Needs.{needs}
 use denote.Ref.{now}
 use lib.ListN.{length}
+use Rattle.rowrule.proofs.Table.{pair-at}
 use Rattle.dictionary.specs.Dictionary.{foundRow}
-use Rattle.dictionary.proofs.Table.{number-some, number-none, lent-size, lent-at}
+use Rattle.dictionary.proofs.Lent.{width-found, width-nowhere}
 use Rattle.dictionary.proofs.entry_in.Statement.{statement}
 use Rattle.dictionary.proofs.entry_in.Tie as tie
 
@@ -16,21 +17,23 @@ here : (c : tie.After-known-told) → c .before .found .given .0 .0 < length (no
 unfolding foundRow
 here c =
     let b = c .before in
-    let f = number-some _ _ (ap foundRow (sym (b .found .given .1)) ∙ b .before .before .row-in .ensures) in
-    omega (arith, lent-size _ (b .before .before .before .pre), f .0)
+    let s = b .before .before .before in
+    width-found (now (s .args .rows)) (s .pre) (s .args .spn) _ (ap foundRow (sym (b .found .given .1)) ∙ b .before .before .row-in .ensures) .0
 
 returns : tie.Need-returns
 unfolding foundRow
 returns c =
     let b = c .before .before in
+    let s = b .before .before .before in
     let e = ap foundRow (sym (b .found .given .1)) ∙ b .before .before .row-in .ensures in
-    (e, lent-at _ (b .before .before .before .pre) _ .1 ∙ sym (number-some _ _ e .2))
+    (e, pair-at (now (s .args .rows)) _ .1 ∙ sym (width-found (now (s .args .rows)) (s .pre) (s .args .spn) _ e .1))
 
 returns-2 : tie.Need-returns-2
 unfolding foundRow
 returns-2 c =
+    let s = c .before .before .before in
     let e = c .before .before .row-in .ensures in
-    (e, sym (number-none _ (ap foundRow (sym (c .enum-told .given .1)) ∙ e) .1))
+    (e, sym (width-nowhere (now (s .args .rows)) (s .pre) (s .args .spn) (ap foundRow (sym (c .enum-told .given .1)) ∙ e)))
 
 pub entry-in-spec : {M : Type 1} → statement M
 entry-in-spec =

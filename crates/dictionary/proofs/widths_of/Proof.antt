@@ -1,61 +1,40 @@
--- `dictionary::widths_of` meets its contract: after i turns the first i widths are laid.
--- Assumes nothing.
-use Prim.Native.Nat.{ℕ, _-_, _≤_}
-use mathlib.Core.Path.{_≡_, refl, ap, _∙_}
-use mathlib.Core.List.{List, _++_}
-use native.Mathlib.Omega.{arith}
+-- `dictionary::widths_of` meets its contract: by the rows of the edition. Assumes nothing.
+use mathlib.Core.Path.{ap, _∙_}
+use mathlib.Core.List.{List}
 use denote.Ref.{now}
 use borrow.Author.Needs.{needs}
-use borrow.Author.Tests.{ltb-true, ltb-false}
-use lib.ListN.{length, getD, drop}
-use Rattle.words.specs.Lists.{tabulate}
-use Rattle.words.proofs.Lists.{write-more}
-use Rattle.dictionary.specs.Dictionary.{widthOf, widthsOver, reach}
+use Rattle.rowrule.specs.Rows.{Row}
+use Rattle.dictionary.specs.Dictionary.{widthIn, widthBy, widthsOver}
+use Rattle.dictionary.proofs.Lent.{rows-2004, rows-2010, lent-2004, lent-2010}
 use Rattle.dictionary.proofs.widths_of.Statement.{statement}
 use Rattle.dictionary.proofs.widths_of.Tie as tie
 
--- the list with the first i widths laid
-abbrev laid : List ℕ → ℕ → List ℕ → List ℕ
-laid spns i held = tabulate (λ k. widthOf (getD spns k 0)) i ++ drop i held
+widths-in-requires : tie.Need-widths-in-requires
+widths-in-requires c κs = lent-2004 _ (c .before .before .all-2004 .ensures)
 
--- where both reach no further all are laid
-all-laid : (spns held : List ℕ) (i : ℕ) → i ≡ reach spns held → laid spns i held ≡ widthsOver spns held
-unfolding widthsOver
-all-laid spns held i e = ap (λ (k : ℕ). laid spns k held) e
-
-abbrev Inv-loop : tie.InvT-loop
-Inv-loop spns widths₀ rows i₀ widths i = (i ≤ length spns) × (i ≤ length widths₀) × (length widths ≡ length widths₀) × (widths ≡ laid spns i widths₀)
-
-abbrev μ-loop : tie.MeasureT-loop
-μ-loop spns widths₀ rows i₀ widths i = length spns - i
-
-loop-holds : tie.Need-loop-holds Inv-loop μ-loop
-unfolding tabulate
-loop-holds c = (search needs, search needs, search needs, refl)
-
-loop-again : tie.Need-loop-again Inv-loop μ-loop
-loop-again c =
-    let l = c .before .before .before .before .before .loop in
-    let a = c .before .before .before .before .before .before .before .before .before .args in
-    let room = ltb-true (l .i) (length (l .widths)) (c .before .before .before .if1 .taken) in (
-      omega arith,
-      omega (arith, room),
-      search needs,
-      rw (c .width-in .ensures, l .inv .3) (write-more (λ k. widthOf (getD (now (a .spns)) k 0)) (l .i) (now (a .widths)) (omega (arith, room))),
-    )
-
-returns : tie.Need-returns Inv-loop μ-loop
+returns : tie.Need-returns
+unfolding widthBy
 returns c =
-    let l = c .before .before .loop in
-    l .inv .3 ∙ all-laid _ _ (l .i) (omega (arith, ltb-false (l .i) (length (l .widths)) (c .if1 .left)))
+    let w = c .before .before in
+    let a = w .before .before .before in
+    let s = a .before .before .before .before .args in
+    w .widths-in .ensures
+    ∙ ap (λ (rows : List Row). widthsOver (widthIn rows) (now (s .spns)) (now (s .widths))) (rows-2004 _ _ (a .all-2004 .ensures) (a .before .if1 .taken))
 
-returns-2 : tie.Need-returns-2 Inv-loop μ-loop
+widths-in-requires-2 : tie.Need-widths-in-requires-2
+widths-in-requires-2 c κs = lent-2010 _ (c .before .before .all .ensures)
+
+returns-2 : tie.Need-returns-2
+unfolding widthBy
 returns-2 c =
-    let l = c .before .loop in
-    l .inv .3 ∙ all-laid _ _ (l .i) (omega (arith, c .loop-test .left))
+    let w = c .before .before in
+    let a = w .before .before .before in
+    let s = a .before .before .before .before .args in
+    w .widths-in2 .ensures
+    ∙ ap (λ (rows : List Row). widthsOver (widthIn rows) (now (s .spns)) (now (s .widths))) (rows-2010 _ _ (a .all .ensures) (a .before .if1 .left))
 
 pub widths-of-spec : {M : Type 1} → statement M
 widths-of-spec =
     tie.close
-    (tie.spec Inv-loop μ-loop (λ c κs. search needs) loop-holds (λ c. search needs) (λ c. search needs) (λ c. search needs) (λ c κs. search needs)
-    (λ c. search needs) (λ c. search needs) (λ c. search needs) (λ c. search needs) loop-again (λ c. search needs) returns (λ c. search needs) returns-2)
+    (tie.spec (λ c κs. search needs) (λ c. search needs) widths-in-requires (λ c. search needs) returns
+    (λ c κs. search needs) (λ c. search needs) widths-in-requires-2 (λ c. search needs) returns-2)

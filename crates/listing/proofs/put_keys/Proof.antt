@@ -6,7 +6,7 @@ use native.Mathlib.Omega.{arith}
 use lib.ListN.{length}
 use Rattle.text.specs.Text.{page, putAll}
 use Rattle.message.specs.declared.Key.{Key}
-use Rattle.lookup.specs.View.{mapIn}
+use Rattle.lookup.specs.View.{mapIn, editionIn}
 use Rattle.lookup.specs.Next.{keyFound, walk, heldKeys}
 use Rattle.listing.specs.Lines.{keyLines}
 use Rattle.listing.proofs.Pieces.{turn, stop, done}
@@ -18,7 +18,7 @@ abbrev Inv-loop : tie.InvT-loop
 Inv-loop t out₀ at place₀ next₀ i₀ out place next i =
     (i ≤ 16)
     × (length out ≡ length out₀)
-    × (putAll (page place out) (keyLines (mapIn t) (walk (16 - i) t (keyFound next))) ≡ putAll (page at out₀) (keyLines (mapIn t) (heldKeys t)))
+    × (putAll (page place out) (keyLines (editionIn t) (mapIn t) (walk (16 - i) t (keyFound next))) ≡ putAll (page at out₀) (keyLines (editionIn t) (mapIn t) (heldKeys t)))
 
 abbrev μ-loop : tie.MeasureT-loop
 μ-loop t out₀ at place₀ next₀ i₀ out place next i = 16 - i
@@ -26,7 +26,7 @@ abbrev μ-loop : tie.MeasureT-loop
 loop-holds : tie.Need-loop-holds Inv-loop μ-loop
 loop-holds c =
     let a = c .before .before .args in
-    (omega arith, refl, ap (λ (k : Option Key). putAll (page (a .at) (a .out .now)) (keyLines (mapIn (a .t .now)) (walk 16 (a .t .now) k))) (c .first-key .ensures))
+    (omega arith, refl, ap (λ (k : Option Key). putAll (page (a .at) (a .out .now)) (keyLines (editionIn (a .t .now)) (mapIn (a .t .now)) (walk 16 (a .t .now) k))) (c .first-key .ensures))
 
 returns : tie.Need-returns Inv-loop μ-loop
 returns c =

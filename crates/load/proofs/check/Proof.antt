@@ -13,16 +13,22 @@ use Rattle.load.proofs.check.Tie as tie
 -- what the page holds once the image is laid into it
 module _ (c : tie.After-lay) where
   abbrev image : List ℕ
-  image = c .before .before .before .before .before .before .args .image .now
+  image = c .before .before .before .before .before .before .before .args .image .now
+
+  abbrev table : List ℕ
+  table = c .before .before .before .before .feed .last .0
+
+  abbrev page : List ℕ
+  page = c .lay .last .1 .1 .0
 
   bytes : Bytes image
-  bytes = all-bytes image (λ i. c .before .before .before .before .before .shared-slice-known .given i .fits)
+  bytes = all-bytes image (λ i. c .before .before .before .before .before .before .shared-slice-known .given i .fits)
 
-  small : c .lay .result ≤ 2594
-  small = room image (c .before .before .before .feed .last .0) (c .before .before .before .feed .ensures) bytes (c .lay .result) (c .lay .ensures .0)
+  small : c .lay .result ≤ 2610
+  small = room image table (c .before .before .before .before .feed .ensures) bytes _ (c .lay .result) page (c .before .before .form-of .ensures) (c .lay .ensures .0)
 
-  long : length (c .lay .last .1 .0) ≡ 2594
-  long = still-long image (c .before .before .before .feed .last .0) (c .before .before .before .feed .ensures) bytes (c .lay .result) (c .lay .last .1 .0) (c .lay .ensures .0) (c .lay .ensures .1)
+  long : length page ≡ 2610
+  long = still-long image table (c .before .before .before .before .feed .ensures) bytes _ (c .lay .result) page (c .before .before .form-of .ensures) (c .lay .ensures .0) (c .lay .ensures .1)
 
 array-share-prefix-whole : tie.Need-array-share-prefix-whole
 array-share-prefix-whole c = omega (arith, small (c .before), long (c .before))
@@ -33,10 +39,10 @@ slice-aggregate-same-bytes c = simp length-take (omega (arith, small (c .before 
 returns : tie.Need-returns
 returns c =
     let l = c .before .before .before in
-    let f = l .before .before .before .feed in
-    c .same-bytes .ensures ∙ checked (image l) (f .last .0) (f .ensures) (bytes l) (l .lay .result) (l .lay .last .1 .0) (l .lay .ensures .0) (l .lay .ensures .1)
+    let f = l .before .before .before .before .feed in
+    c .same-bytes .ensures ∙ checked (image l) (table l) (f .ensures) (bytes l) _ (l .lay .result) (page l) (l .before .before .form-of .ensures) (l .lay .ensures .0) (l .lay .ensures .1)
 
 pub check-spec : {M : Type 1} → statement M
 check-spec =
     tie.close
-    (tie.spec (λ c κs. search needs) (λ c. search needs) (λ c κs. search needs) array-share-prefix-whole slice-aggregate-same-bytes (λ c κs. search needs) returns)
+    (tie.spec (λ c κs. search needs) (λ c κs. search needs) (λ c. search needs) (λ c κs. search needs) array-share-prefix-whole slice-aggregate-same-bytes (λ c κs. search needs) returns)

@@ -1,6 +1,6 @@
 -- `locate::answer_all` meets its contract: too short for what was counted, or all of it is laid. Assumes nothing.
 use mathlib.Core.Path.{sym, _∙_}
-use Rattle.dictionary.specs.Dictionary.{widthOf}
+use Rattle.open.specs.Open.{widthFor}
 use Rattle.locate.specs.Locate.{located}
 use Rattle.locate.proofs.Walked.{told-count}
 use Rattle.locate.proofs.Laid.{out-of-room, in-room}
@@ -13,8 +13,8 @@ returns c =
     let s = c .before .before in
     let k = s .before .before in
     let a = k .before .before .args in
-    out-of-room (located widthOf (a .t .now) (a .asked .own) (a .asked .spn)) (a .log .now) (a .start) (k .look-all .result .count)
-    (k .look-all .ensures .1 ∙ sym (told-count widthOf (a .t .now) (a .asked .own) (a .asked .spn))) _ (sym (s .is-short .ensures) ∙ c .before .if1 .taken) (c .plainly .ensures)
+    out-of-room (located (widthFor (a .t .now)) (a .t .now) (a .asked .own) (a .asked .spn)) (a .log .now) (a .start) (k .look-all .result .count)
+    (k .look-all .ensures .1 ∙ sym (told-count (widthFor (a .t .now)) (a .t .now) (a .asked .own) (a .asked .spn))) _ (sym (s .is-short .ensures) ∙ c .before .if1 .taken) (c .plainly .ensures)
 
 returns-2 : tie.Need-returns-2
 returns-2 c =
@@ -23,8 +23,8 @@ returns-2 c =
     let s = i .before in
     let k = s .before .before in
     let a = k .before .before .args in
-    in-room (located widthOf (a .t .now) (a .asked .own) (a .asked .spn)) (a .log .now) (a .start) (k .look-all .result .count)
-    (k .look-all .ensures .1 ∙ sym (told-count widthOf (a .t .now) (a .asked .own) (a .asked .spn))) _ (sym (s .is-short .ensures) ∙ i .if1 .left) (c .with-detail .ensures)
+    in-room (located (widthFor (a .t .now)) (a .t .now) (a .asked .own) (a .asked .spn)) (a .log .now) (a .start) (k .look-all .result .count)
+    (k .look-all .ensures .1 ∙ sym (told-count (widthFor (a .t .now)) (a .t .now) (a .asked .own) (a .asked .spn))) _ (sym (s .is-short .ensures) ∙ i .if1 .left) (c .with-detail .ensures)
     _ (p .put-all .ensures)
 
 pub answer-all-spec : {M : Type 1} → statement M

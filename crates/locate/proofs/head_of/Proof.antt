@@ -5,7 +5,7 @@ use mathlib.Core.List.{List}
 use denote.Ref.{now}
 use Rattle.keyrow.specs.Row.{formWord}
 use Rattle.keyrow.specs.View.{headOf}
-use Rattle.locate.proofs.Finding.{no-form}
+use Rattle.lookup.proofs.KeyRow.{no-form}
 use borrow.Author.Needs.{needs}
 use Rattle.locate.proofs.head_of.Statement.{statement}
 use Rattle.locate.proofs.head_of.Tie as tie

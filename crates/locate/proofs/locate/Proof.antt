@@ -1,5 +1,5 @@
 -- `locate::locate` meets its contract: the tests of the request one after another, and then what its destination makes of it. Assumes nothing.
-use Rattle.dictionary.specs.Dictionary.{widthOf}
+use Rattle.open.specs.Open.{widthFor}
 use Rattle.locate.proofs.Request.{at-frame, at-command, at-log, to-us, to-another}
 use Rattle.locate.proofs.Laid.{no-message}
 use borrow.Author.Needs.{needs}
@@ -11,7 +11,7 @@ returns c =
     let b = c .before .before in
     let s = b .before in
     let a = s .before .before .args in
-    at-frame widthOf (a .t .now) (a .own) (a .id) (a .len) (a .d .now) (a .log .now) (a .start) _ (s .split .ensures) _ (b .served-fault .ensures) (c .before .if1 .taken) _ (c .plainly .ensures)
+    at-frame (widthFor (a .t .now)) (a .t .now) (a .own) (a .id) (a .len) (a .d .now) (a .log .now) (a .start) _ (s .split .ensures) _ (b .served-fault .ensures) (c .before .if1 .taken) _ (c .plainly .ensures)
 
 returns-2 : tie.Need-returns-2
 returns-2 c =
@@ -19,7 +19,7 @@ returns-2 c =
     let b = z .before in
     let s = b .before in
     let a = s .before .before .args in
-    at-command widthOf (a .t .now) (a .own) (a .id) (a .len) (a .d .now) (a .log .now) (a .start) _ (s .split .ensures) _ (b .served-fault .ensures) (z .if1 .left) (c .before .if2 .taken) _
+    at-command (widthFor (a .t .now)) (a .t .now) (a .own) (a .id) (a .len) (a .d .now) (a .log .now) (a .start) _ (s .split .ensures) _ (b .served-fault .ensures) (z .if1 .left) (c .before .if2 .taken) _
     (c .plainly2 .ensures)
 
 returns-3 : tie.Need-returns-3
@@ -32,9 +32,9 @@ returns-3 c =
     let b = z .before in
     let s = b .before in
     let a = s .before .before .args in
-    at-log widthOf (a .t .now) (a .own) (a .id) (a .len) (a .d .now) (a .log .now) (a .start) _ (s .split .ensures) _ (b .served-fault .ensures) (z .if1 .left) (k .if2 .left) _ _
+    at-log (widthFor (a .t .now)) (a .t .now) (a .own) (a .id) (a .len) (a .d .now) (a .log .now) (a .start) _ (s .split .ensures) _ (b .served-fault .ensures) (z .if1 .left) (k .if2 .left) _ _
     (w .answer-all .ensures)
-    (to-us widthOf (a .t .now) (a .own) (a .id) (a .len) (a .d .now) (a .log .now) (a .start) _ (s .split .ensures) _ (i .before .destination .ensures) _ (i .is-ours .ensures) (q .before .if3 .taken) _
+    (to-us (widthFor (a .t .now)) (a .t .now) (a .own) (a .id) (a .len) (a .d .now) (a .log .now) (a .start) _ (s .split .ensures) _ (i .before .destination .ensures) _ (i .is-ours .ensures) (q .before .if3 .taken) _
     (q .spn-asked .ensures))
 
 returns-4 : tie.Need-returns-4
@@ -45,9 +45,9 @@ returns-4 c =
     let b = z .before in
     let s = b .before in
     let a = s .before .before .args in
-    at-log widthOf (a .t .now) (a .own) (a .id) (a .len) (a .d .now) (a .log .now) (a .start) _ (s .split .ensures) _ (b .served-fault .ensures) (z .if1 .left) (k .if2 .left) _ _
+    at-log (widthFor (a .t .now)) (a .t .now) (a .own) (a .id) (a .len) (a .d .now) (a .log .now) (a .start) _ (s .split .ensures) _ (b .served-fault .ensures) (z .if1 .left) (k .if2 .left) _ _
     (no-message (a .log .now) (a .start) _ (c .answer-none .ensures))
-    (to-another widthOf (a .t .now) (a .own) (a .id) (a .len) (a .d .now) (a .log .now) (a .start) _ (s .split .ensures) _ (i .before .destination .ensures) _ (i .is-ours .ensures) (c .before .if3 .left))
+    (to-another (widthFor (a .t .now)) (a .t .now) (a .own) (a .id) (a .len) (a .d .now) (a .log .now) (a .start) _ (s .split .ensures) _ (i .before .destination .ensures) _ (i .is-ours .ensures) (c .before .if3 .left))
 
 pub locate-spec : {M : Type 1} → statement M
 locate-spec =

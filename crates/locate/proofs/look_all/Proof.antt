@@ -6,7 +6,7 @@ use mathlib.Core.Option.{Option}
 use mathlib.Core.List.{_++_}
 use native.Mathlib.Omega.{arith}
 use lib.ListN.{length, take, drop, replicate, length-set}
-use Rattle.dictionary.specs.Dictionary.{widthOf}
+use Rattle.open.specs.Open.{widthFor}
 use Rattle.message.specs.declared.Key.{Key}
 use Rattle.lookup.specs.Next.{keyFound, walk, heldKeys}
 use Rattle.locate.specs.Parts.{positionsFrom, positionsOf}
@@ -20,8 +20,8 @@ Inv-loop t asked positions₀ count₀ next₀ i₀ positions count next i =
     (i ≤ 16)
     × (length positions ≡ 16)
     × (count ≤ i)
-    × (count + many widthOf t (asked .own) (asked .spn) (walk (16 - i) t (keyFound next)) ≡ many widthOf t (asked .own) (asked .spn) (heldKeys t))
-    × (take i positions ++ positionsFrom widthOf t (asked .own) (asked .spn) (16 - i) (keyFound next) ≡ positionsOf widthOf t (asked .own) (asked .spn))
+    × (count + many (widthFor t) t (asked .own) (asked .spn) (walk (16 - i) t (keyFound next)) ≡ many (widthFor t) t (asked .own) (asked .spn) (heldKeys t))
+    × (take i positions ++ positionsFrom (widthFor t) t (asked .own) (asked .spn) (16 - i) (keyFound next) ≡ positionsOf (widthFor t) t (asked .own) (asked .spn))
     × (drop i positions ≡ replicate (16 - i) 0)
 
 abbrev μ-loop : tie.MeasureT-loop
@@ -30,8 +30,8 @@ abbrev μ-loop : tie.MeasureT-loop
 loop-holds : tie.Need-loop-holds Inv-loop μ-loop
 loop-holds c =
     let a = c .before .args in
-    let e = ap (λ (k : Option Key). many widthOf (a .t .now) (a .asked .own) (a .asked .spn) (walk 16 (a .t .now) k)) (c .first-key .ensures) in
-    (omega arith, refl, omega arith, omega (arith, e), ap (positionsFrom widthOf (a .t .now) (a .asked .own) (a .asked .spn) 16) (c .first-key .ensures), refl)
+    let e = ap (λ (k : Option Key). many (widthFor (a .t .now)) (a .t .now) (a .asked .own) (a .asked .spn) (walk 16 (a .t .now) k)) (c .first-key .ensures) in
+    (omega arith, refl, omega arith, omega (arith, e), ap (positionsFrom (widthFor (a .t .now)) (a .t .now) (a .asked .own) (a .asked .spn) 16) (c .first-key .ensures), refl)
 
 add-count : tie.Need-add-count Inv-loop μ-loop
 add-count c = let l = c .before .before .before .before .before .before .loop in omega (arith, l .inv .2, l .inv .0, c .one-for .ensures .1)
@@ -41,8 +41,8 @@ returns c =
     let l = c .before .before .before .loop in
     let a = c .before .before .before .before .before .args in
     let n = ap keyFound (c .enum-told .given .1) in
-    let z = count-stop widthOf (a .t .now) (a .asked .own) (a .asked .spn) (16 - l .i) (keyFound (l .next)) n in
-    (positions-stop widthOf (a .t .now) (a .asked .own) (a .asked .spn) (16 - l .i) (keyFound (l .next)) (l .positions) _ (l .i) (l .inv .4) n (l .inv .5), omega (arith, z, l .inv .3))
+    let z = count-stop (widthFor (a .t .now)) (a .t .now) (a .asked .own) (a .asked .spn) (16 - l .i) (keyFound (l .next)) n in
+    (positions-stop (widthFor (a .t .now)) (a .t .now) (a .asked .own) (a .asked .spn) (16 - l .i) (keyFound (l .next)) (l .positions) _ (l .i) (l .inv .4) n (l .inv .5), omega (arith, z, l .inv .3))
 
 loop-again : tie.Need-loop-again Inv-loop μ-loop
 loop-again c =
@@ -56,12 +56,12 @@ loop-again c =
       omega arith,
       simp length-set (l .inv .1),
       omega (arith, l .inv .2, one .ensures .1),
-      count-turn widthOf (a .t .now) (a .asked .own) (a .asked .spn) m n (f .0 .0) (keyFound (l .next)) _ (omega arith) (ap keyFound (f .1)) (c .next-key .ensures)
+      count-turn (widthFor (a .t .now)) (a .t .now) (a .asked .own) (a .asked .spn) m n (f .0 .0) (keyFound (l .next)) _ (omega arith) (ap keyFound (f .1)) (c .next-key .ensures)
           (p .result) (p .ensures) (l .count) (one .result) (one .ensures .0)
           ∙ l .inv .3,
-      position-laid widthOf (a .t .now) (a .asked .own) (a .asked .spn) m n (f .0 .0) (keyFound (l .next)) _ (omega arith) (ap keyFound (f .1)) (c .next-key .ensures)
+      position-laid (widthFor (a .t .now)) (a .t .now) (a .asked .own) (a .asked .spn) m n (f .0 .0) (keyFound (l .next)) _ (omega arith) (ap keyFound (f .1)) (c .next-key .ensures)
           (l .positions) _ (l .i) (p .result) (omega (arith, l .inv .1)) (p .ensures) (l .inv .4),
-      zeros-left widthOf (a .t .now) (a .asked .own) (a .asked .spn) m n (f .0 .0) (keyFound (l .next)) _ (omega arith) (ap keyFound (f .1)) (c .next-key .ensures)
+      zeros-left (widthFor (a .t .now)) (a .t .now) (a .asked .own) (a .asked .spn) m n (f .0 .0) (keyFound (l .next)) _ (omega arith) (ap keyFound (f .1)) (c .next-key .ensures)
           (l .positions) (l .positions) (l .i) (p .result) (omega (arith, l .inv .1)) (p .ensures) (l .inv .5),
     )
 
@@ -69,8 +69,8 @@ returns-2 : tie.Need-returns-2 Inv-loop μ-loop
 returns-2 c =
     let l = c .before .loop in
     let a = c .before .before .before .args in
-    let z = count-done widthOf (a .t .now) (a .asked .own) (a .asked .spn) (16 - l .i) (keyFound (l .next)) (omega arith) in (
-      positions-done widthOf (a .t .now) (a .asked .own) (a .asked .spn) (16 - l .i) (keyFound (l .next)) (l .positions) _ (l .i) (l .inv .4) (omega arith) (omega (arith, l .inv .1)),
+    let z = count-done (widthFor (a .t .now)) (a .t .now) (a .asked .own) (a .asked .spn) (16 - l .i) (keyFound (l .next)) (omega arith) in (
+      positions-done (widthFor (a .t .now)) (a .t .now) (a .asked .own) (a .asked .spn) (16 - l .i) (keyFound (l .next)) (l .positions) _ (l .i) (l .inv .4) (omega arith) (omega (arith, l .inv .1)),
       omega (arith, z, l .inv .3),
     )
 

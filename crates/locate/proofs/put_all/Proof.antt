@@ -6,7 +6,7 @@ use mathlib.Core.Option.{Option}
 use native.Mathlib.Omega.{arith}
 use lib.ListN.{length, drop}
 use Rattle.text.specs.Text.{page, putAll}
-use Rattle.dictionary.specs.Dictionary.{widthOf}
+use Rattle.open.specs.Open.{widthFor}
 use Rattle.message.specs.declared.Key.{Key}
 use Rattle.lookup.specs.Next.{keyFound, walk, heldKeys}
 use Rattle.locate.specs.Parts.{positionsFrom}
@@ -19,8 +19,8 @@ abbrev Inv-loop : tie.InvT-loop
 Inv-loop t asked positions log₀ start at₀ next₀ i₀ log at next i =
     (i ≤ 16)
     × (length log ≡ length log₀)
-    × (putAll (page at log) (pieces widthOf t (asked .own) (asked .spn) (walk (16 - i) t (keyFound next))) ≡ putAll (page start log₀) (pieces widthOf t (asked .own) (asked .spn) (heldKeys t)))
-    × (drop i positions ≡ positionsFrom widthOf t (asked .own) (asked .spn) (16 - i) (keyFound next))
+    × (putAll (page at log) (pieces (widthFor t) t (asked .own) (asked .spn) (walk (16 - i) t (keyFound next))) ≡ putAll (page start log₀) (pieces (widthFor t) t (asked .own) (asked .spn) (heldKeys t)))
+    × (drop i positions ≡ positionsFrom (widthFor t) t (asked .own) (asked .spn) (16 - i) (keyFound next))
 
 abbrev μ-loop : tie.MeasureT-loop
 μ-loop t asked positions log₀ start at₀ next₀ i₀ log at next i = 16 - i
@@ -31,15 +31,15 @@ loop-holds c =
     let a = s .args in (
       omega arith,
       refl,
-      ap (λ (k : Option Key). putAll (page (a .start) (a .log .now)) (pieces widthOf (a .t .now) (a .asked .own) (a .asked .spn) (walk 16 (a .t .now) k))) (c .first-key .ensures),
-      s .pre ∙ sym (ap (positionsFrom widthOf (a .t .now) (a .asked .own) (a .asked .spn) 16) (c .first-key .ensures)),
+      ap (λ (k : Option Key). putAll (page (a .start) (a .log .now)) (pieces (widthFor (a .t .now)) (a .t .now) (a .asked .own) (a .asked .spn) (walk 16 (a .t .now) k))) (c .first-key .ensures),
+      s .pre ∙ sym (ap (positionsFrom (widthFor (a .t .now)) (a .t .now) (a .asked .own) (a .asked .spn) 16) (c .first-key .ensures)),
     )
 
 returns : tie.Need-returns Inv-loop μ-loop
 returns c =
     let l = c .before .before .before .loop in
     let a = c .before .before .before .before .before .before .args in
-    put-stop widthOf (a .t .now) (a .asked .own) (a .asked .spn) (16 - l .i) (keyFound (l .next)) (page (l .at) (l .log)) (ap keyFound (c .enum-told .given .1)) ∙ l .inv .2
+    put-stop (widthFor (a .t .now)) (a .t .now) (a .asked .own) (a .asked .spn) (16 - l .i) (keyFound (l .next)) (page (l .at) (l .log)) (ap keyFound (c .enum-told .given .1)) ∙ l .inv .2
 
 loop-again : tie.Need-loop-again Inv-loop μ-loop
 loop-again c =
@@ -52,18 +52,18 @@ loop-again c =
     let n = 16 - l .i in (
       omega arith,
       search needs,
-      put-turn widthOf (a .t .now) (a .asked .own) (a .asked .spn) m n (f .0 .0) (keyFound (l .next)) _ (omega arith) (ap keyFound (f .1)) (c .next-key .ensures) _
-          (position-now widthOf (a .t .now) (a .asked .own) (a .asked .spn) m n (f .0 .0) (keyFound (l .next)) _ (omega arith) (ap keyFound (f .1)) (c .next-key .ensures) (a .positions .now) (l .i) (l .inv .3))
+      put-turn (widthFor (a .t .now)) (a .t .now) (a .asked .own) (a .asked .spn) m n (f .0 .0) (keyFound (l .next)) _ (omega arith) (ap keyFound (f .1)) (c .next-key .ensures) _
+          (position-now (widthFor (a .t .now)) (a .t .now) (a .asked .own) (a .asked .spn) m n (f .0 .0) (keyFound (l .next)) _ (omega arith) (ap keyFound (f .1)) (c .next-key .ensures) (a .positions .now) (l .i) (l .inv .3))
           (page (l .at) (l .log)) _ (w .put-told .ensures)
           ∙ l .inv .2,
-      position-next widthOf (a .t .now) (a .asked .own) (a .asked .spn) m n (f .0 .0) (keyFound (l .next)) _ (omega arith) (ap keyFound (f .1)) (c .next-key .ensures) (a .positions .now) (l .i) (l .inv .3),
+      position-next (widthFor (a .t .now)) (a .t .now) (a .asked .own) (a .asked .spn) m n (f .0 .0) (keyFound (l .next)) _ (omega arith) (ap keyFound (f .1)) (c .next-key .ensures) (a .positions .now) (l .i) (l .inv .3),
     )
 
 returns-2 : tie.Need-returns-2 Inv-loop μ-loop
 returns-2 c =
     let l = c .before .loop in
     let a = c .before .before .before .before .args in
-    put-done widthOf (a .t .now) (a .asked .own) (a .asked .spn) (16 - l .i) (keyFound (l .next)) (page (l .at) (l .log)) (omega arith) ∙ l .inv .2
+    put-done (widthFor (a .t .now)) (a .t .now) (a .asked .own) (a .asked .spn) (16 - l .i) (keyFound (l .next)) (page (l .at) (l .log)) (omega arith) ∙ l .inv .2
 
 pub put-all-spec : {M : Type 1} → statement M
 put-all-spec =

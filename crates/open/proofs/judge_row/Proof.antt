@@ -4,12 +4,11 @@ use mathlib.Core.Path.{_≡_, sym, ap, _∙_}
 use denote.Ref.{now}
 use borrow.Author.Needs.{needs}
 use Rattle.message.specs.declared.Head.{Head}
-use Rattle.dictionary.specs.Dictionary.{widthOf}
 use Rattle.judge.specs.Judge.{spnIn, startIn, judge}
 use Rattle.keyrow.specs.Row.{formWord}
 use Rattle.keyrow.specs.View.{headOf}
 use Rattle.keyrow.proofs.View.{row-conflict}
-use Rattle.open.specs.Open.{markedWidth, reach}
+use Rattle.open.specs.Open.{widthRow, markedWidth, reach}
 use Rattle.open.specs.Unfolded.{unfolded}
 use Rattle.open.proofs.Unfolded.{row-judged}
 use Rattle.open.proofs.judge_row.Statement.{statement}
@@ -26,7 +25,7 @@ returns c =
     let a = q .before .before .before .before .before .before .before .args in
     let row = now (a .row) in
     let e = u .unfold-row .ensures in (
-      sym (ap (judge widthOf) (row-conflict row (c .if1 .taken))),
+      sym (ap (judge (widthRow row)) (row-conflict row (c .if1 .taken))),
       e .0 ∙ ap (λ (k : ℕ). unfolded spnIn row k (now (a .spns))) (far q),
       e .1 ∙ ap (λ (k : ℕ). unfolded startIn row k (now (a .starts))) (far q),
       e .2 ∙ ap (λ (k : ℕ). unfolded markedWidth row k (now (a .widths))) (far q),

@@ -9,6 +9,7 @@ use Rattle.keyrow.specs.View.{placeOf}
 use Rattle.words.specs.Lists.{tabulate}
 use Rattle.judge.specs.Judge.{spnIn, startIn}
 use Rattle.keyrow.specs.Row.{positions}
+use Rattle.open.specs.Open.{widthRow}
 use Rattle.open.specs.Unfolded.{unfolded}
 use Rattle.open.proofs.Unfolded.{spn-there, start-there, turn}
 use Rattle.open.proofs.lay_places.Statement.{statement}
@@ -32,8 +33,8 @@ loop-again c =
       search needs,
       search needs,
       search needs,
-      turn spnIn (now (a .row)) (now (a .spns)) _ (l .loop .i) _ (search needs) (omega arith) (l .loop .inv .3) (c .before .spn-of .ensures ∙ spn-there (placeOf (getD (now (a .row)) (3 + l .loop .i) 0))),
-      turn startIn (now (a .row)) (now (a .starts)) _ (l .loop .i) _ (search needs) (omega arith) (l .loop .inv .4) (c .start-of .ensures ∙ start-there (placeOf (getD (now (a .row)) (3 + l .loop .i) 0))),
+      turn spnIn (now (a .row)) (now (a .spns)) _ (l .loop .i) _ (search needs) (omega arith) (l .loop .inv .3) (c .before .spn-of .ensures ∙ spn-there (widthRow (now (a .row))) (placeOf (getD (now (a .row)) (3 + l .loop .i) 0))),
+      turn startIn (now (a .row)) (now (a .starts)) _ (l .loop .i) _ (search needs) (omega arith) (l .loop .inv .4) (c .start-of .ensures ∙ start-there (widthRow (now (a .row))) (placeOf (getD (now (a .row)) (3 + l .loop .i) 0))),
     )
 
 returns : tie.Need-returns Inv-loop μ-loop

@@ -1,4 +1,4 @@
--- `unfold_row`: SPNs and starts by `lay_places`; the dictionary's widths of these SPNs, marked where nothing stands. Assumes nothing.
+-- `unfold_row`: SPNs and starts by `lay_places`; the widths of these SPNs by the row's edition, marked where nothing stands. Assumes nothing.
 use mathlib.Core.Path.{sym, ap, _∙_}
 use denote.Ref.{now}
 use borrow.Author.Needs.{needs}
@@ -17,18 +17,19 @@ returns : tie.Need-returns
 returns c =
     let m = c .before .before in
     let w = m .before .before .before .before in
-    let p = w .before .before .before .before .before .before .before in
+    let v = w .before .before .before in
+    let p = v .before .before .before .before .before .before in
     let s = p .before .before .before .before .before .before .before in
     let a = s .args in (
       p .lay-places .ensures .0,
       p .lay-places .ensures .1,
       m .mark-missing .ensures ∙ ap (markedTo (now (a .row)) (a .n)) (w .widths-of .ensures)
-          ∙ widths-unfolded (now (a .row)) (now (a .widths)) (a .n) (s .pre .1) (s .pre .4) _
+          ∙ widths-unfolded (now (a .row)) (now (a .widths)) (a .n) (s .pre .1) (s .pre .4) _ (v .edition-of .ensures) _
           (ap (take (a .n)) (p .lay-places .ensures .0) ∙ unfolded-first spnIn (now (a .row)) (a .n) (now (a .spns))),
     )
 
 pub unfold-row-spec : {M : Type 1} → statement M
 unfold-row-spec =
     tie.close
-    (tie.spec (λ c κs. search needs) (λ c. search needs) slice-aggregate-widths-of (λ c κs. search needs) (λ c κs. search needs) (λ c. search needs)
-    (λ c. search needs) (λ c. search needs) returns)
+    (tie.spec (λ c κs. search needs) (λ c. search needs) (λ c κs. search needs) (λ c. search needs) slice-aggregate-widths-of (λ c κs. search needs) (λ c κs. search needs)
+    (λ c. search needs) (λ c. search needs) (λ c. search needs) returns)

@@ -1,6 +1,7 @@
 use denote.Ref.{now}
 use Rattle.text.specs.Text.{page}
 use Rattle.lookup.specs.View.{mapIn}
+use Rattle.open.specs.Open.{widthFor}
 use Rattle.lookup.proofs.KeyRow.{its-map, no-map}
 use Rattle.save.proofs.Pieces.{saved-not, saved-held, saved-none}
 use borrow.Author.Needs.{needs}
@@ -25,7 +26,7 @@ returns-2 c =
     let s = p .before .before .before .before .before .before in
     let a = s .args in
     let r = p .before .before .before .row-of in
-    saved-held (mapIn (a .t .now) (a .key)) (now (r .result)) (page (a .at) (a .out .now)) _ (a .saved) (s .pre) (p .before .before .before .before .if1 .taken)
+    saved-held (mapIn (a .t .now) (a .key)) (widthFor (a .t .now) (a .key)) (now (r .result)) (page (a .at) (a .out .now)) _ (a .saved) (s .pre) (p .before .before .before .before .if1 .taken)
     (its-map (a .t .now) (a .key) (r .ensures .1) _ (r .ensures .0) (p .before .before .if2 .left) .1) (p .put-row-body .ensures)
 
 returns-3 : tie.Need-returns-3
