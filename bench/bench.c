@@ -29,6 +29,7 @@
 #define KEYS 16
 #define ROW 67           /* words of a key's row */
 #define TALKERS 8        /* pairs that send long messages: sources 0 to 7, to 39 */
+#define QUEUE 65         /* words of a port's queue */
 #define FIRST_8 1        /* the message k of the first map of a kind, all of them from 38 to 39; these in `box`, */
 #define FIRST_30 6
 #define FIRST_64 1       /* these in `wide_box` */
@@ -67,6 +68,10 @@ static size_t saved_size, form_1_size;
 static yendrolf_sessions talk;
 static const uint8_t asking[8] = { 16, 0xf9, 0x06, 255, 255, 0x00, 0xb2, 0x00 };   /* a request to send 1,785 bytes */
 static uint8_t packets[256][8];           /* by their number */
+static yendrolf_bridge day;
+static yendrolf_box day_box, listed_box;  /* with fresh filters, and with 32 PGNs in each pair's list */
+static uint64_t frames_waiting[FRAMES];   /* words of frames that wait, of any priority and from any port */
+static uint8_t trace_records[RECORDS * YENDROLF_EVENT_BYTES];
 
 /* What pack and read find, the same for each run; 1 fits every width. */
 static void fill(void)
@@ -83,6 +88,21 @@ static void start_talk(void)
     yendrolf_start_sessions(&talk);
     for (uint32_t pair = 0; pair < TALKERS; pair++)
         yendrolf_request(&talk, 0x1cec2700u | pair, 8, asking);
+}
+
+/* How many wait at each port. */
+static void set_waiting(uint64_t count)
+{
+    for (unsigned port = 0; port < 4; port++)
+        day.queues[QUEUE * port] = count;
+}
+
+/* 64 wait at each port. */
+static void fill_queues(void)
+{
+    for (unsigned i = 0; i < 4 * QUEUE; i++)
+        day.queues[i] = frames_waiting[i];
+    set_waiting(YENDROLF_MOST_WAITING);
 }
 
 #define MEASURED __attribute__((unused)) static
@@ -160,6 +180,14 @@ static const struct test {
     { "request to send", 1600000, BUILT(request) },
     { "a packet", 1600000, BUILT(packet) },
     { "the last packet of 1,785 bytes", 200000, BUILT(last_packet) },
+    { "a frame offered to three ports", 800000, BUILT(offer) },
+    { "a frame offered, lists of 32", 200000, BUILT(offer32) },
+    { "a frame offered, the queues full", 800000, BUILT(offer_full) },
+    { "slot, 8 wait", 800000, BUILT(slot8) },
+    { "slot, 64 wait", 400000, BUILT(slot64) },
+    { "what is counted of a pair, 64 wait", 400000, BUILT(pair) },
+    { "replay, a record", 400000, BUILT(replay) },
+    { "the lines of a replay", 4000, BUILT(replayed) },
 };
 
 static double seconds(void)
@@ -394,6 +422,41 @@ static void see_usable(const yendrolf_box *b, uint8_t first, const struct map *m
     }
 }
 
+/* A record of a day's trace: half are frames at any port, of the PGNs that the fitter sets among others; nearly as many slots; few settings. */
+static void put_event(uint8_t *r)
+{
+    uint32_t what = any() % 100, pgn = 65280 + any() % 40, id = any() % 4 ? other_ids[any() % FRAMES] : (any() % 8) << 26 | pgn << 8;
+    uint8_t port = (uint8_t)(1 + any() % 4), to = (uint8_t)(1 + (port + any() % 3) % 4);
+    uint8_t frame[5] = { port, (uint8_t)id, (uint8_t)(id >> 8), (uint8_t)(id >> 16), (uint8_t)(id >> 24) };
+    uint8_t setting[6] = { (uint8_t)(any() % 12 == 0 ? 67 : any() % 3 ? 65 : 66), port, to, (uint8_t)pgn, (uint8_t)(pgn >> 8), 0 };
+    if (setting[0] == 67)
+        setting[3] = 0;
+    memset(r, 0, YENDROLF_EVENT_BYTES);
+    if (what < 50)
+        memcpy(r, frame, sizeof frame);
+    else if (what < 96)
+        r[0] = (uint8_t)(128 + port);
+    else
+        memcpy(r, setting, sizeof setting);
+}
+
+static void prepare_day(void)
+{
+    yendrolf_start(&day_box);
+    yendrolf_start(&listed_box);
+    for (uint8_t from = 1; from <= 4; from++)
+        for (uint8_t to = 1; to <= 4; to++)
+            for (uint32_t i = 0; i < 32; i++)
+                yendrolf_add(&listed_box, from, to, 65280 + i);
+    for (unsigned i = 0; i < FRAMES; i++)
+        frames_waiting[i] = (uint64_t)(1 + any() % 4) << 32 | other_ids[any() % FRAMES];
+    for (unsigned i = 0; i < RECORDS; i++)
+        put_event(trace_records + YENDROLF_EVENT_BYTES * i);
+    yendrolf_start_bridge(&day);
+    if (yendrolf_offer(&day, &day_box, 1, other_ids[0]).to[0].detail != YENDROLF_PASS)
+        fail("a frame was not queued");
+}
+
 static void prepare(void)
 {
     yendrolf_start(&box);
@@ -474,6 +537,7 @@ static void prepare(void)
         for (unsigned j = 1; j < 8; j++)
             packets[i][j] = (uint8_t)any();
     }
+    prepare_day();
     start_talk();
     if (yendrolf_packet(&talk, 0x1ceb2707u, 8, packets[1], payload).told.number != 0)
         fail("a packet was refused");
@@ -538,8 +602,8 @@ int main(int argc, char **argv)
     for (size_t t = 0; t < sizeof tests / sizeof tests[0]; t++)
         measure(&tests[t], part ? part : 1);
     printf("\n%s. Processor time, medians of %d runs that take turns, in one process. The %llu SPNs were drawn evenly from the dictionary's %zu rows\n"
-        "(mean row %.0f), but for those of the maps with odd widths and of both editions. State: %zu bytes (table %zu, filters %zu) and %zu of sessions, the same for all.\n",
+        "(mean row %.0f), but for those of the maps with odd widths and of both editions. State: %zu bytes (table %zu, filters %zu), %zu of sessions and %zu of a bridge, the same for all.\n",
         argc > 1 ? argv[1] : "", RUNS, (unsigned long long)rows_drawn, ENTRIES, (double)rows_sum / (double)rows_drawn, sizeof(yendrolf_box), sizeof box.table,
-        sizeof box.filters, sizeof talk);
+        sizeof box.filters, sizeof talk, sizeof day);
     return 0;
 }

@@ -319,5 +319,108 @@ MEASURED uint64_t TEST(last_packet)(uint64_t n)
     return sum;
 }
 
+/* Frames at the four ports in turn. Four of them bring each port three, so that after 84 each has 63; then all that wait are taken away by the words of their count. */
+MEASURED uint64_t TEST(offers)(uint64_t n, const uint32_t *filters)
+{
+    uint64_t sum = 0, filled = 0;
+    CALL(bridge_fresh)(day.counters, day.queues);
+    for (uint64_t i = 0; i < n; i++) {
+        yendrolf_offered got = CALL(bridge_offer)(day.counters, day.queues, filters, (uint8_t)(1 + i % 4), other_ids[i % FRAMES]);
+        sum += got.to[0].detail + got.to[1].detail + got.to[2].detail;
+        if (++filled == 84) {
+            filled = 0;
+            set_waiting(0);
+        }
+    }
+    return sum + day.counters[0];
+}
+
+MEASURED uint64_t TEST(offer)(uint64_t n)
+{
+    return TEST(offers)(n, day_box.filters);
+}
+
+/* Each pair's list has 32 PGNs, and the frames are of others. */
+MEASURED uint64_t TEST(offer32)(uint64_t n)
+{
+    return TEST(offers)(n, listed_box.filters);
+}
+
+/* 64 wait at each port. */
+MEASURED uint64_t TEST(offer_full)(uint64_t n)
+{
+    uint64_t sum = 0;
+    CALL(bridge_fresh)(day.counters, day.queues);
+    set_waiting(YENDROLF_MOST_WAITING);
+    for (uint64_t i = 0; i < n; i++)
+        sum += CALL(bridge_offer)(day.counters, day.queues, day_box.filters, (uint8_t)(1 + i % 4), other_ids[i % FRAMES]).to[i % 3].number;
+    return sum;
+}
+
+/* Slots of the four ports in turn, where so many wait: before each one another frame stands behind those that are left. */
+MEASURED uint64_t TEST(slots)(uint64_t n, uint64_t waiting)
+{
+    uint64_t sum = 0;
+    CALL(bridge_fresh)(day.counters, day.queues);
+    fill_queues();
+    for (uint64_t i = 0; i < n; i++) {
+        uint64_t *queue = &day.queues[QUEUE * (i % 4)];
+        uint8_t from = 0;
+        uint32_t identifier = 0;
+        queue[0] = waiting;
+        queue[waiting] = frames_waiting[i % FRAMES];
+        CALL(bridge_slot)(day.counters, day.queues, (uint8_t)(1 + i % 4), &from, &identifier);
+        sum += from + identifier;
+    }
+    return sum;
+}
+
+MEASURED uint64_t TEST(slot64)(uint64_t n)
+{
+    return TEST(slots)(n, YENDROLF_MOST_WAITING);
+}
+
+MEASURED uint64_t TEST(slot8)(uint64_t n)
+{
+    return TEST(slots)(n, 8);
+}
+
+/* The twelve pairs in turn, and four that are none, 64 waiting at each port. */
+MEASURED uint64_t TEST(pair)(uint64_t n)
+{
+    uint64_t sum = 0;
+    fill_queues();
+    for (uint64_t i = 0; i < n; i++) {
+        yendrolf_pair got = CALL(bridge_pair)(day.counters, day.queues, (uint8_t)(1 + i % 4), (uint8_t)(1 + i / 4 % 4));
+        sum += got.told.number + got.waiting;
+    }
+    return sum;
+}
+
+/* A trace, from a fresh bridge and fresh filters on. */
+MEASURED uint64_t TEST(replay)(uint64_t n)
+{
+    yendrolf_trace had = CALL(start_trace)();
+    CALL(bridge_fresh)(day.counters, day.queues);
+    CALL(filters_fresh)(other_box.filters);
+    for (uint64_t fed = 0; fed < n; fed += RECORDS)
+        had = CALL(bridge_feed)(day.counters, day.queues, other_box.filters, had, trace_records, sizeof trace_records);
+    return had.events + had.slots + had.refused + day.counters[3] + day.counters[4];
+}
+
+MEASURED uint64_t TEST(replayed)(uint64_t n)
+{
+    static uint8_t text[YENDROLF_REPLAY_BYTES];
+    yendrolf_trace had = CALL(start_trace)();
+    uint64_t sum = 0;
+    memset(text, 0, sizeof text);
+    fill_queues();
+    for (uint64_t i = 0; i < n; i++) {
+        had.events = i;
+        sum += CALL(bridge_finish)(day.counters, day.queues, had, text, sizeof text).detail + text[i % 300];
+    }
+    return sum;
+}
+
 #undef CALL
 #undef TEST

@@ -43,5 +43,12 @@ yendrolf_told FAST(filters_decide)(const uint32_t *filters, uint8_t from, uint8_
 void FAST(sessions_fresh)(uint64_t *heads);
 yendrolf_told FAST(sessions_request)(uint64_t *heads, uint32_t identifier, uint8_t length, const uint8_t *data);
 yendrolf_arrived FAST(sessions_packet)(uint64_t *heads, uint8_t *bytes, uint8_t *payload, uint32_t identifier, uint8_t length, const uint8_t *data);
+void FAST(bridge_fresh)(uint64_t *counters, uint64_t *queues);
+yendrolf_offered FAST(bridge_offer)(uint64_t *counters, uint64_t *queues, const uint32_t *filters, uint8_t from, uint32_t identifier);
+yendrolf_told FAST(bridge_slot)(uint64_t *counters, uint64_t *queues, uint8_t port, uint8_t *from, uint32_t *identifier);
+yendrolf_pair FAST(bridge_pair)(const uint64_t *counters, const uint64_t *queues, uint8_t from, uint8_t to);
+yendrolf_trace FAST(start_trace)(void);
+yendrolf_trace FAST(bridge_feed)(uint64_t *counters, uint64_t *queues, uint32_t *filters, yendrolf_trace trace, const uint8_t *chunk, size_t size);
+yendrolf_told FAST(bridge_finish)(const uint64_t *counters, const uint64_t *queues, yendrolf_trace trace, uint8_t *text, size_t room);
 
 #endif

@@ -1,6 +1,7 @@
 /* The box for C: learning Configuration Identification Messages, judging maps by either edition of the dictionary, packing and reading payloads, what a number means, the answer
- * to a Parameter Locate, the listing of a log, an image of what the box learned, long messages put together from their packets, and the filter of a bridge of four ports.
- * examples/hitch.c has the calls at work, examples/long.c those on long messages; examples/socketcan.c is a loop on Linux' CAN sockets.
+ * to a Parameter Locate, the listing of a log, an image of what the box learned, long messages put together from their packets, the filter of a bridge of four ports, and the bridge
+ * itself with what waits and what is counted at it. examples/hitch.c has the calls at work, examples/long.c those on long messages, examples/bridge.c those on a bridge;
+ * examples/socketcan.c is a loop on Linux' CAN sockets.
  *
  * Link with the archive that `rt staticlib firmware` writes (target/staticlib/libfirmware.a). Every function of it is proved against its contract
  * (crates/firmware); this header is not: tests/header and tests/compare/run compare it with the archive.
@@ -8,17 +9,17 @@
  * What it needs:
  * - x86-64 Linux, no other machine, and a compiler of C99 or C++11 or later.
  * - memcpy and memset, which the archive's code calls and which C's library has. It calls nobody else, allocates nothing and keeps nothing between calls.
- * - Stack below the caller's own, in bytes: load, image_body and image_row 14,200; finish 3,200; locate, save and image_size 2,800; judge, pack, read and find 2,500; parameter_at,
- *   meaning and scaled 1,700; every other call 400. It is a bound from the archive's code (tests/stack), with 120 for the header's own function where the compiler does not inline it; what
+ * - Stack below the caller's own, in bytes: load, image_body and image_row 14,200; finish 3,200; locate, save, image_size and replayed 2,800; judge, pack, read and find 2,500; parameter_at,
+ *   meaning and scaled 1,700; replay 700; every other call 400. It is a bound from the archive's code (tests/stack), with 120 for the header's own function where the compiler does not inline it; what
  *   memcpy and memset take is not in it.
  *
  * How to call it:
  * - Lend one yendrolf_box, which may stand anywhere that is aligned to 8. C aligns a variable by itself; a place inside other bytes is yours to align.
- *   The calls on long messages are lent a yendrolf_sessions in the same way, and no box.
- * - Start with yendrolf_start, and sessions with yendrolf_start_sessions. From then on change them by these calls alone. (Any other words in them are answered too, and nothing traps.)
+ *   The calls on long messages are lent a yendrolf_sessions in the same way, and no box; those on a bridge a yendrolf_bridge, beside the box whose filters they go by.
+ * - Start with yendrolf_start, sessions with yendrolf_start_sessions, and a bridge with yendrolf_start_bridge. From then on change them by these calls alone. (Any other words in them are answered too, and nothing traps.)
  * - No pointer may be null, and what a call may write must not overlap with anything else that is lent to the same call. A `data` has 8 bytes, and the `payload` of
  *   yendrolf_packet has 1,785, however long the message is.
- * - One call at a time on one box, and on one yendrolf_sessions. Two boxes do not know of each other.
+ * - One call at a time on one box, on one yendrolf_sessions and on one yendrolf_bridge. Two boxes do not know of each other.
  * - A number is what its type can hold: C makes 1 of a port 257 before the library sees it. (-Wconversion tells.)
  * - The words of a box are the machine's own, so a box is no file format. An image is (docs/IMAGE.md): keep that across power cycles, and load it into the next box.
  * - An identifier is the 29 bits and nothing else. SocketCAN has flags above them: give `can_id & CAN_EFF_MASK`, and give only frames with CAN_EFF_FLAG and
@@ -29,8 +30,8 @@
  * - Forget a key after answer 10: it stays in conflict, and no later message mends it; its sender has to say the whole map again. And forget every key
  *   that has an address, as source or as destination, when the address changed hands: what is held was another's map (SAE J1939-74, 5.2.3).
  *
- * Every answer's number is one of enum yendrolf_answer. A refusal, which is any number but 0 and 10, changes nothing, but for 29, which drops its own session; 10
- * changes its key's mark alone.
+ * Every answer's number is one of enum yendrolf_answer. A refusal, which is any number but 0 and 10, changes nothing, but for 29, which drops its own session, and 1 and 26 to a frame that
+ * a bridge is offered, which are counted and change nothing else; 10 changes its key's mark alone.
  */
 #ifndef YENDROLF_H
 #define YENDROLF_H
@@ -79,6 +80,7 @@ enum yendrolf_answer {
     YENDROLF_NOT_IN_IMAGE = 22,         /* key or row not in the image */
     YENDROLF_NOT_EMPTY = 23,            /* the table to load into holds a key */
     YENDROLF_BAD_COMMAND = 24,          /* of locate, a command byte that is not 0; of request, a control byte that is not 16 */
+    YENDROLF_TURNED_AWAY = 26,          /* the filter passes the frame, and 64 wait at the port */
     YENDROLF_BAD_EDITION = 27,          /* an edition that is not 2004 or 2010 */
     YENDROLF_NO_SESSION = 28,           /* a packet of a pair, source and destination, that has no session */
     YENDROLF_OUT_OF_SEQUENCE = 29,      /* not the packet that comes next: its session is dropped */
@@ -156,6 +158,14 @@ enum yendrolf_size {
     YENDROLF_HELD_BYTES = 14280,        /* payload bytes of the sessions, YENDROLF_MOST_BYTES for each */
     YENDROLF_SESSIONS_BYTES = 14536,    /* bytes of a yendrolf_sessions */
     YENDROLF_PACKET_BYTES = 7,          /* payload bytes of a packet */
+    YENDROLF_PAIRS = 12,                /* directed pairs of ports */
+    YENDROLF_PAIR_COUNTERS = 6,         /* counters of a pair */
+    YENDROLF_COUNTER_WORDS = 72,        /* words of the counters, YENDROLF_PAIR_COUNTERS for each pair */
+    YENDROLF_MOST_WAITING = 64,         /* frames that wait at a port */
+    YENDROLF_QUEUE_WORDS = 260,         /* words of the queues: for each port how many wait, and YENDROLF_MOST_WAITING frames */
+    YENDROLF_BRIDGE_BYTES = 2656,       /* bytes of a yendrolf_bridge */
+    YENDROLF_EVENT_BYTES = 14,          /* bytes of a trace's record */
+    YENDROLF_REPLAY_BYTES = 2304,       /* enough for the lines of any replay */
     YENDROLF_STACK_BYTES = 14200        /* stack of any call at most */
 };
 
@@ -170,6 +180,12 @@ typedef struct {
     uint64_t heads[YENDROLF_HEAD_WORDS];
     uint8_t bytes[YENDROLF_HELD_BYTES];
 } yendrolf_sessions;
+
+/* What a bridge keeps beside the filters: the counters of each pair, and the frames that wait at each port. */
+typedef struct {
+    uint64_t counters[YENDROLF_COUNTER_WORDS];
+    uint64_t queues[YENDROLF_QUEUE_WORDS];
+} yendrolf_bridge;
 
 /* An answer: `number` is of enum yendrolf_answer, `judgement` of enum yendrolf_judgement. The detail is 0 unless the call says otherwise; judgement and
    position are 0 but for 12 and for 0 of judging. */
@@ -231,6 +247,26 @@ typedef struct {
     uint32_t pgn;
 } yendrolf_arrived;
 
+/* What a bridge answers to a frame at a port: `to` has what the three other ports answer, rising, where `told` is 0. Where it is 15 there was no such port, and `to` has zeros, which are
+   no answers. */
+typedef struct {
+    yendrolf_told told;
+    yendrolf_told to[3];
+} yendrolf_offered;
+
+/* What is counted of a pair of ports: frames that arrived, and of these how many were filtered, queued, turned away and refused; of the queued ones how many were sent, and how many are
+   waiting now. So `arrived` is filtered, sent, waiting, turned and refused added together, and `queued` is sent and waiting. All are 0 on a refusal. */
+typedef struct {
+    yendrolf_told told;
+    uint64_t arrived;
+    uint64_t filtered;
+    uint64_t queued;
+    uint64_t sent;
+    uint64_t turned;
+    uint64_t refused;
+    uint64_t waiting;
+} yendrolf_pair;
+
 /* A held key, or that there is none: `held` is 1 or 0, and the others are 0 with it. */
 typedef struct {
     uint8_t held;
@@ -248,6 +284,19 @@ typedef struct {
     uint8_t carry[YENDROLF_RECORD_BYTES];
 } yendrolf_log;
 
+/* What is kept of a trace from chunk to chunk: how many events there were, and of these frames, slots, commands and others, which are none of these; how many commands were refused; and the first `left`
+   bytes of a record that is not whole yet. */
+typedef struct {
+    uint64_t events;
+    uint64_t frames;
+    uint64_t slots;
+    uint64_t commands;
+    uint64_t refused;
+    uint64_t other;
+    uint64_t left;
+    uint8_t carry[YENDROLF_EVENT_BYTES];
+} yendrolf_trace;
+
 /* The archive was built for these sizes of the structs, and places and sizes of their fields. Where one is another, this does not compile: an array has the
    length -1. */
 #define YENDROLF_CHECK(name, test) typedef char yendrolf_check_##name[(test) ? 1 : -1]
@@ -262,6 +311,9 @@ YENDROLF_CHECK_FIELD(box, filters, 8576, 1632);
 YENDROLF_CHECK_STRUCT(sessions, YENDROLF_SESSIONS_BYTES);
 YENDROLF_CHECK_FIELD(sessions, heads, 0, 256);
 YENDROLF_CHECK_FIELD(sessions, bytes, 256, 14280);
+YENDROLF_CHECK_STRUCT(bridge, YENDROLF_BRIDGE_BYTES);
+YENDROLF_CHECK_FIELD(bridge, counters, 0, 576);
+YENDROLF_CHECK_FIELD(bridge, queues, 576, 2080);
 YENDROLF_CHECK_STRUCT(told, 16);
 YENDROLF_CHECK_FIELD(told, number, 0, 4);
 YENDROLF_CHECK_FIELD(told, detail, 4, 4);
@@ -297,6 +349,18 @@ YENDROLF_CHECK_FIELD(row, edition, 44, 4);
 YENDROLF_CHECK_STRUCT(arrived, 20);
 YENDROLF_CHECK_FIELD(arrived, told, 0, 16);
 YENDROLF_CHECK_FIELD(arrived, pgn, 16, 4);
+YENDROLF_CHECK_STRUCT(offered, 64);
+YENDROLF_CHECK_FIELD(offered, told, 0, 16);
+YENDROLF_CHECK_FIELD(offered, to, 16, 48);
+YENDROLF_CHECK_STRUCT(pair, 72);
+YENDROLF_CHECK_FIELD(pair, told, 0, 16);
+YENDROLF_CHECK_FIELD(pair, arrived, 16, 8);
+YENDROLF_CHECK_FIELD(pair, filtered, 24, 8);
+YENDROLF_CHECK_FIELD(pair, queued, 32, 8);
+YENDROLF_CHECK_FIELD(pair, sent, 40, 8);
+YENDROLF_CHECK_FIELD(pair, turned, 48, 8);
+YENDROLF_CHECK_FIELD(pair, refused, 56, 8);
+YENDROLF_CHECK_FIELD(pair, waiting, 64, 8);
 YENDROLF_CHECK_STRUCT(key, 4);
 YENDROLF_CHECK_FIELD(key, held, 0, 1);
 YENDROLF_CHECK_FIELD(key, source, 1, 1);
@@ -308,13 +372,22 @@ YENDROLF_CHECK_FIELD(log, refused, 8, 8);
 YENDROLF_CHECK_FIELD(log, other, 16, 8);
 YENDROLF_CHECK_FIELD(log, left, 24, 8);
 YENDROLF_CHECK_FIELD(log, carry, 32, 13);
+YENDROLF_CHECK_STRUCT(trace, 72);
+YENDROLF_CHECK_FIELD(trace, events, 0, 8);
+YENDROLF_CHECK_FIELD(trace, frames, 8, 8);
+YENDROLF_CHECK_FIELD(trace, slots, 16, 8);
+YENDROLF_CHECK_FIELD(trace, commands, 24, 8);
+YENDROLF_CHECK_FIELD(trace, refused, 32, 8);
+YENDROLF_CHECK_FIELD(trace, other, 40, 8);
+YENDROLF_CHECK_FIELD(trace, left, 48, 8);
+YENDROLF_CHECK_FIELD(trace, carry, 56, 14);
 #undef YENDROLF_CHECK_FIELD
 #undef YENDROLF_CHECK_STRUCT
 #undef YENDROLF_CHECK
 
-/* ---- NOT TO BE CALLED: the functions of the archive, each on one part of a box or of the sessions. The calls below have their names without `table_`, `filters_` and
-   `sessions_` (but yendrolf_start_sessions, since yendrolf_fresh is of the filters), take the box or the sessions, and pass the right part of it; called directly,
-   nothing stops a wrong or a short one. */
+/* ---- NOT TO BE CALLED: the functions of the archive, each on one part of a box, of the sessions or of a bridge. The calls below have their names without `table_`, `filters_`, `sessions_` and `bridge_`
+   (but for those whose short name another has: yendrolf_start_sessions, yendrolf_start_bridge, yendrolf_pair_counts, yendrolf_replay and yendrolf_replayed), take the box, the sessions or the bridge,
+   and pass the right part of it; called directly, nothing stops a wrong or a short one. */
 void yendrolf_table_empty(uint64_t *table);
 yendrolf_told yendrolf_table_learn(uint64_t *table, uint32_t identifier, uint8_t length, const uint8_t *data);
 yendrolf_told yendrolf_table_forget(uint64_t *table, uint8_t source, uint8_t destination, uint8_t k);
@@ -345,6 +418,12 @@ yendrolf_told yendrolf_filters_decide(const uint32_t *filters, uint8_t from, uin
 void yendrolf_sessions_fresh(uint64_t *heads);
 yendrolf_told yendrolf_sessions_request(uint64_t *heads, uint32_t identifier, uint8_t length, const uint8_t *data);
 yendrolf_arrived yendrolf_sessions_packet(uint64_t *heads, uint8_t *bytes, uint8_t *payload, uint32_t identifier, uint8_t length, const uint8_t *data);
+void yendrolf_bridge_fresh(uint64_t *counters, uint64_t *queues);
+yendrolf_offered yendrolf_bridge_offer(uint64_t *counters, uint64_t *queues, const uint32_t *filters, uint8_t from, uint32_t identifier);
+yendrolf_told yendrolf_bridge_slot(uint64_t *counters, uint64_t *queues, uint8_t port, uint8_t *from, uint32_t *identifier);
+yendrolf_pair yendrolf_bridge_pair(const uint64_t *counters, const uint64_t *queues, uint8_t from, uint8_t to);
+yendrolf_trace yendrolf_bridge_feed(uint64_t *counters, uint64_t *queues, uint32_t *filters, yendrolf_trace trace, const uint8_t *chunk, size_t size);
+yendrolf_told yendrolf_bridge_finish(const uint64_t *counters, const uint64_t *queues, yendrolf_trace trace, uint8_t *text, size_t room);
 
 /* ---- TO BE CALLED, from here on. */
 
@@ -580,6 +659,56 @@ static inline yendrolf_told yendrolf_request(yendrolf_sessions *sessions, uint32
 static inline yendrolf_arrived yendrolf_packet(yendrolf_sessions *sessions, uint32_t identifier, uint8_t length, const uint8_t *data, uint8_t *payload)
 {
     return yendrolf_sessions_packet(sessions->heads, sessions->bytes, payload, identifier, length, data);
+}
+
+/* ---- a bridge of the four ports (SAE J1939-31, 4.4 and 5.1). A frame that comes at a port is offered to the three others; where the filter of the pair passes it, it waits at that port until
+   a slot lets it leave: those of a higher priority (a lower number) first, of one priority in the order in which they came. 64 wait at a port, over its three pairs together. Nothing is sent: a slot says which
+   frame leaves, by the port that it came at and its identifier, and length and data are the caller's to keep. */
+
+/* No frame waits, and every counter is 0. */
+static inline void yendrolf_start_bridge(yendrolf_bridge *bridge)
+{
+    yendrolf_bridge_fresh(bridge->counters, bridge->queues);
+}
+
+/* Offers a frame that came at port `from` to the three other ports: 15, and nothing is counted; or 0, and each of them answers 1 (identifier above 2^29 - 1: refused), 0 with detail 0 (its filter
+   blocks the frame), 26 (its filter passes the frame, and 64 wait there: turned away) or 0 with detail 1 (queued). Each of these is counted at its pair, and `arrived` with it. */
+static inline yendrolf_offered yendrolf_offer(yendrolf_bridge *bridge, const yendrolf_box *box, uint8_t from, uint32_t identifier)
+{
+    return yendrolf_bridge_offer(bridge->counters, bridge->queues, box->filters, from, identifier);
+}
+
+/* A slot, in which one frame may leave a port: 15; 0 with detail 0 where none waits; or 0 with detail 1, and `from` and `identifier` are those of the frame that leaves. Otherwise both keep what they
+   held. */
+static inline yendrolf_told yendrolf_slot(yendrolf_bridge *bridge, uint8_t port, uint8_t *from, uint32_t *identifier)
+{
+    return yendrolf_bridge_slot(bridge->counters, bridge->queues, port, from, identifier);
+}
+
+/* What is counted of a pair, and how many of its frames wait: 15 or 0. A counter goes from 2^64 - 1 to 0. */
+static inline yendrolf_pair yendrolf_pair_counts(const yendrolf_bridge *bridge, uint8_t from, uint8_t to)
+{
+    return yendrolf_bridge_pair(bridge->counters, bridge->queues, from, to);
+}
+
+/* ---- a recorded day through a bridge: start, then replay each chunk of the trace (records of 14 bytes, docs/TRACE.md: frames at a port, slots, and what the fitter set), then have the lines
+   written. A fresh bridge and fresh filters are the caller's to lend. */
+
+/* Nothing read yet. */
+yendrolf_trace yendrolf_start_trace(void);
+
+/* Takes the next `size` bytes of a trace, cut anywhere: frames are offered and slots used as by the calls above, and the filters of the box changed as by yendrolf_add, yendrolf_delete and
+   yendrolf_renew. */
+static inline yendrolf_trace yendrolf_replay(yendrolf_bridge *bridge, yendrolf_box *box, yendrolf_trace trace, const uint8_t *chunk, size_t size)
+{
+    return yendrolf_bridge_feed(bridge->counters, bridge->queues, box->filters, trace, chunk, size);
+}
+
+/* Writes the counters of the twelve pairs and what the trace had, as lines of text, over the start of `text`, which has `room` bytes: 13 where they are too few, and nothing is written; or 0 with their
+   length as its detail. 2,304 bytes are always enough. */
+static inline yendrolf_told yendrolf_replayed(const yendrolf_bridge *bridge, yendrolf_trace trace, uint8_t *text, size_t room)
+{
+    return yendrolf_bridge_finish(bridge->counters, bridge->queues, trace, text, room);
 }
 
 #ifdef __cplusplus

@@ -1,4 +1,5 @@
-"""What the programs `vectors`, `runs`, `meanings`, `locates`, `images` and `transports` are run on, and what the model says they must write."""
+"""What the programs `vectors`, `runs`, `meanings`, `locates`, `images`, `transports` and `bridges` are run on, and what the model says they must write."""
+import bridges
 import editions
 import images
 import keys
@@ -20,6 +21,7 @@ def files():
     yield from written("locates", [*locates.cases(Dice(44800)), *editions.located(Dice(27))])
     yield from written("images", [*images.cases(Dice(21))])
     yield from written("transports", transports.cases(Dice(60416)))
+    yield from written("bridges", bridges.cases(Dice(26)))
 
 
 def written(program, cases):

@@ -278,7 +278,7 @@ def on_a_fresh_copy(rt, target, status, wrote, said, script="list", prints="list
         shutil.copy(ROOT / script, copy)
         for name in ("tools/program.sh", "tools/shelf.sh", "tools/shelf.py", "docs/UNITS.md"):
             shutil.copy(ROOT / name, copy / name)
-        (copy / "crates.txt").write_text("answers:\nother: answers\nlist: answers io   # a program\nkeep: answers io\nshelves: answers io\n")
+        (copy / "crates.txt").write_text("answers:\nother: answers\nlist: answers io   # a program\nkeep: answers io\nshelves: answers io\nreplay: answers io\n")
         (kit / "bin" / "rt").write_text(rt)
         (kit / "bin" / "rt").chmod(0o755)
         (kit / "program").write_text(f"#!/bin/sh\necho {prints}\necho done >&3\n")

@@ -13,7 +13,7 @@ static uint32_t answer_or_judgement(yendrolf_told told)
     case YENDROLF_NOT_HELD: case YENDROLF_BAD_BUFFER: case YENDROLF_TOO_WIDE: case YENDROLF_BAD_PORTS: case YENDROLF_LIST_FULL: case YENDROLF_BAD_PGN:
     case YENDROLF_NOT_LISTED: case YENDROLF_BAD_MODE: case YENDROLF_LIST_NOT_EMPTY: case YENDROLF_DAMAGED: case YENDROLF_NOT_IN_IMAGE: case YENDROLF_NOT_EMPTY:
     case YENDROLF_BAD_EDITION: return told.number;
-    case YENDROLF_BAD_COMMAND: case YENDROLF_NO_SESSION: case YENDROLF_OUT_OF_SEQUENCE: case YENDROLF_SESSIONS_FULL: case YENDROLF_BAD_SIZE: return told.number;
+    case YENDROLF_BAD_COMMAND: case YENDROLF_TURNED_AWAY: case YENDROLF_NO_SESSION: case YENDROLF_OUT_OF_SEQUENCE: case YENDROLF_SESSIONS_FULL: case YENDROLF_BAD_SIZE: return told.number;
     case YENDROLF_NOT_USABLE: break;
     default: return 0;
     }
@@ -109,6 +109,59 @@ static uint32_t long_message(void)
     if (arrived.told.number != YENDROLF_DONE || arrived.pgn != 45568 || payload[0] != 10 || payload[YENDROLF_PACKET_BYTES] != 17 || payload[11] != 21 || payload[12] != 0)
         return 99;
     return sizeof sessions == YENDROLF_SESSIONS_BYTES ? arrived.told.detail : 99;
+}
+
+/* A box that keeps engine configuration from port 4, and a bridge with it: a frame at port 3, then an engine's of a higher priority at port 1. Whether port 2 lets the second one leave first, and all is counted. */
+static int frames_cross(yendrolf_bridge *bridge, yendrolf_box *filters)
+{
+    uint8_t from = 0;
+    uint32_t identifier = 0;
+    yendrolf_start(filters);
+    yendrolf_start_bridge(bridge);
+    if (answer_or_judgement(yendrolf_add(filters, 1, 4, 65251)) != 0 || yendrolf_slot(bridge, 2, &from, &identifier).detail != 0)
+        return 0;
+    if (yendrolf_offer(bridge, filters, YENDROLF_PORTS + 1, 0x18fee803).told.number != YENDROLF_BAD_PORTS || yendrolf_offer(bridge, filters, 3, 0x18fee803).told.number != YENDROLF_DONE)
+        return 0;
+    yendrolf_offered offered = yendrolf_offer(bridge, filters, 1, 0x0cfee300);
+    if (offered.to[0].detail != YENDROLF_PASS || offered.to[1].detail != YENDROLF_PASS || offered.to[2].number != YENDROLF_DONE || offered.to[2].detail != YENDROLF_BLOCK)
+        return 0;
+    if (answer_or_judgement(yendrolf_slot(bridge, 2, &from, &identifier)) != 1 || from != 1 || identifier != 0x0cfee300)
+        return 0;
+    yendrolf_pair header = yendrolf_pair_counts(bridge, 1, 2), tester = yendrolf_pair_counts(bridge, 1, YENDROLF_PORTS), radio = yendrolf_pair_counts(bridge, 3, 2);
+    return header.arrived == 1 && header.queued == 1 && header.sent == 1 && header.waiting == 0 && tester.filtered == 1 && radio.waiting == 1 && radio.sent == 0;
+}
+
+/* 65 frames into one port: the last is turned away, and so is an engine's at another port, which is the first record of a trace; the second one is a slot, and the trace is cut behind its first byte. */
+static int turned_away(yendrolf_bridge *bridge, yendrolf_box *filters)
+{
+    static const uint8_t day[2 * YENDROLF_EVENT_BYTES] = { 1, 0x00, 0x04, 0xf0, 0x0c, 8, 0, 0, 0, 0, 0, 0, 0, 0, 130 };
+    static uint8_t text[YENDROLF_REPLAY_BYTES];
+    yendrolf_start_bridge(bridge);
+    for (unsigned i = 0; i < YENDROLF_MOST_WAITING; i++)
+        if (yendrolf_offer(bridge, filters, 3, 0x18fee803).to[1].number != YENDROLF_DONE)
+            return 0;
+    if (answer_or_judgement(yendrolf_offer(bridge, filters, 3, 0x18fee803).to[1]) != YENDROLF_TURNED_AWAY || yendrolf_offer(bridge, filters, 3, 0x38fee803).to[1].number != YENDROLF_BAD_IDENTIFIER)
+        return 0;
+    yendrolf_trace trace = yendrolf_replay(bridge, filters, yendrolf_start_trace(), day, YENDROLF_EVENT_BYTES + 1);
+    if (trace.events != 1 || trace.left != 1 || trace.carry[0] != 130)
+        return 0;
+    trace = yendrolf_replay(bridge, filters, trace, day + YENDROLF_EVENT_BYTES + 1, sizeof day - YENDROLF_EVENT_BYTES - 1);
+    if (trace.frames != 1 || trace.slots != 1 || trace.commands + trace.refused + trace.other + trace.left != 0)
+        return 0;
+    yendrolf_pair tractor = yendrolf_pair_counts(bridge, 1, 2), radio = yendrolf_pair_counts(bridge, 3, 2);
+    if (tractor.turned != 1 || radio.turned != 1 || radio.refused != 1 || radio.sent != 1 || radio.arrived != radio.filtered + radio.sent + radio.waiting + radio.turned + radio.refused)
+        return 0;
+    yendrolf_told written = yendrolf_replayed(bridge, trace, text, sizeof text);
+    return written.number == YENDROLF_DONE && text[0] == 'F' && yendrolf_replayed(bridge, trace, text, written.detail - 1).number == YENDROLF_BAD_BUFFER
+        && yendrolf_pair_counts(bridge, 2, 2).told.number == YENDROLF_BAD_PORTS;
+}
+
+static int at_a_bridge(void)
+{
+    static yendrolf_bridge bridge;
+    static yendrolf_box filters;
+    return frames_cross(&bridge, &filters) && turned_away(&bridge, &filters) && sizeof bridge == YENDROLF_BRIDGE_BYTES
+        && YENDROLF_COUNTER_WORDS == YENDROLF_PAIRS * YENDROLF_PAIR_COUNTERS && YENDROLF_QUEUE_WORDS == YENDROLF_PORTS * (1 + YENDROLF_MOST_WAITING);
 }
 
 /* Whether 19 bits (SPN 3147) lie as an SPN does in SAE J1939-74, 5.3.2, and are judged YENDROLF_UNEVEN where they start at bit 1. */
@@ -214,6 +267,8 @@ int main(void)
     sum += answer_or_judgement(yendrolf_renew(&box, 1, 2, YENDROLF_PASS_ALL_BUT));
     yendrolf_told decided = yendrolf_decide(&box, 1, 2, 0x18fee300);
     if (decided.number != YENDROLF_DONE || decided.detail == YENDROLF_BLOCK || decided.detail != YENDROLF_PASS)
+        return 1;
+    if (!at_a_bridge())
         return 1;
     if (YENDROLF_HELD_BYTES != YENDROLF_MOST_SESSIONS * YENDROLF_MOST_BYTES || YENDROLF_HEAD_WORDS % YENDROLF_MOST_SESSIONS != 0)
         return 1;

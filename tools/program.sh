@@ -1,12 +1,12 @@
-# Sourced by the scripts that a person starts (./list, ./save, ./shelf, ./why), which have set `root` to the project's folder: what they read is looked at, their program is proved and built
+# Sourced by the scripts that a person starts (./list, ./save, ./shelf, ./why, ./replay), which have set `root` to the project's folder: what they read is looked at, their program is proved and built
 # where that has not been done since its sources changed, and it is run. Such a script sets
 #   name     its own name, which every message begins with
 #   crate    its program
-#   kind     what it reads in one word: log, image
+#   kind     what it reads in one word: log, image, trace
 #   one      the same with its article
 #   such     and with what it is
 #   example  a command that works
-#   writes   what it writes in one word: listing, image
+#   writes   what it writes in one word: listing, image, replay
 # and then calls `read_from FILE` and `run_program`.
 set -u
 
@@ -64,11 +64,19 @@ build() {
     touch "$program"
 }
 
-# Whether a file begins like text: 13 bytes at least, and no control byte but tabs and line ends in the first 64. The fifth byte of a record is a length from
-# 0 to 8, and that is a control byte.
+# Whether a file begins like text: 13 bytes at least, and no control byte but tabs and line ends in the first 64. The fifth byte of a log's record is a length from
+# 0 to 8, and that is a control byte; so are the ports of a trace's records, and the bytes behind a slot.
 begins() { dd if="$1" bs=64 count=1 2>/dev/null; }
 is_text() {
     [ -f "$1" ] && [ "$(begins "$1" | wc -c)" -ge 13 ] && [ "$(begins "$1" | LC_ALL=C tr -dc '\000-\010\013\014\016-\037\177' | wc -c)" -eq 0 ]
+}
+
+# What records of such a kind are, and what makes them; nothing of a kind that has no records.
+made_by() {
+    case $kind in
+    log) echo 'records of 13 bytes: tools/candump2log makes them from a trace of candump, tools/mklog from readable lines' ;;
+    trace) echo 'records of 14 bytes: tools/mktrace makes them from readable lines' ;;
+    esac
 }
 
 # What is read: a file, or standard input for -.
@@ -111,8 +119,8 @@ stop() {
 # Runs the program on what `read_from` found; further words go to it. The status is 0 where it has read and written everything, and 1 where not and it has said why.
 run() {
     prepare_program
-    [ "$kind" != log ] || ! is_text "$input" ||
-        printf '%s: this log looks like text, and a log is records of 13 bytes: tools/candump2log makes them from a trace of candump, tools/mklog from readable lines\n' "$name" >&2
+    made=$(made_by)
+    [ -z "$made" ] || ! is_text "$input" || printf '%s: this %s looks like text, and %s is %s\n' "$name" "$kind" "$one" "$made" >&2
 
     # The program has no exit status. Given a word, it writes `done` on descriptor 3 once it has read everything and written everything (crates/reading/src/lib.rt);
     # where anything else happens to it, that is missing. Descriptors 3 and 4 are the two ends of a file that has no name any more.

@@ -1,19 +1,18 @@
 /* compare CALLS SEED: makes CALLS calls of the Rattle library (include/yendrolf.h) and of plain.c on the same inputs, and compares every answer, every
    buffer, and what the box means afterwards. The inputs come from SEED alone: few keys, SPNs, starts and PGNs, so that conflicts, full tables, usable
-   maps and every answer are frequent, and twelve pairs that send long messages at once; the counts at the end show it. At the first difference it prints the seed and the call, and ends with 1. */
+   maps and every answer are frequent, twelve pairs that send long messages at once, and days at a bridge (days.c); the counts at the end show it. At the first difference it prints the seed and the call, and ends with 1. */
 #include <inttypes.h>
 #include <stdio.h>
 #include <stdlib.h>
 #include <string.h>
 
-#include "../../include/yendrolf.h"
-#include "plain.h"
+#include "compare.h"
 
 /* ---- numbers from the seed */
 
 static uint64_t seed_now;
 
-static uint32_t any(void)
+uint32_t any(void)
 {
     uint64_t x = seed_now += 0x9e3779b97f4a7c15u;
     x = (x ^ (x >> 30)) * 0xbf58476d1ce4e5b9u;
@@ -21,17 +20,15 @@ static uint32_t any(void)
     return (uint32_t)(x >> 32);
 }
 
-static unsigned below(unsigned n)
+unsigned below(unsigned n)
 {
     return (unsigned)((uint64_t)any() * n >> 32);
 }
 
-static int one_in(unsigned n)
+int one_in(unsigned n)
 {
     return below(n) == 0;
 }
-
-#define PICK(list) ((list)[below(sizeof(list) / sizeof((list)[0]))])
 
 /* ---- what is compared */
 
@@ -39,7 +36,8 @@ static yendrolf_box box;              /* the library's */
 static struct plain_box plain;        /* the second implementation's */
 static yendrolf_box before;           /* the library's before the call */
 
-static uint64_t seed, calls, checks;
+static uint64_t seed, checks;
+uint64_t calls;
 
 enum call { LEARN, FORGET, COUNT, JUDGE, PACK, READ, FIND, PARAMETER, LOCATE, MEANING, SCALED, KEYS, ADD, DELETE, RENEW, DECIDE, LIST, SAVE, LOAD, BODY, ROW, REQUEST, PACKET, SET, EDITION,
     KINDS };
@@ -66,16 +64,18 @@ static uint64_t judged_2004[10];      /* judgements of keys whose edition is 200
 static uint64_t packed_2004, located_2004, saved_2004, loaded_2004;   /* of such keys: payloads packed, records of a locate, rows of saved images and of loaded ones */
 static uint64_t of_form[3], undamaged_of_form[3];   /* bytes that were tried as an image, by their form (0 any other), and how many were one */
 
-static char told_call[512];           /* the call under way, for a report */
+char told_call[512];
 
-static void differ(const char *what)
+void differ(const char *what)
 {
     printf("DIFFERENT: %s\n  seed %" PRIu64 ", call %" PRIu64 ": %s\n", what, seed, calls, told_call);
     exit(1);
 }
 
-static void differ_answers(yendrolf_told a, struct plain_answer b)
+void same_answer(yendrolf_told a, struct plain_answer b)
 {
+    if (a.number == b.number && a.detail == b.detail && a.judgement == b.judgement && a.position == b.position)
+        return;
     printf("library %u %u %u %u, plain %u %u %u %u\n", a.number, a.detail, a.judgement, a.position, b.number, b.detail, b.judgement, b.position);
     differ("the answer");
 }
@@ -83,8 +83,7 @@ static void differ_answers(yendrolf_told a, struct plain_answer b)
 /* One call: its answers must be the same, and its effect on the words the one that its answer has. */
 static void same(enum call kind, yendrolf_told a, struct plain_answer b)
 {
-    if (a.number != b.number || a.detail != b.detail || a.judgement != b.judgement || a.position != b.position)
-        differ_answers(a, b);
+    same_answer(a, b);
     calls++;
     kinds[kind]++;
     if (b.number > LAST_ANSWER || b.judgement > 9)
@@ -2080,6 +2079,8 @@ static void play_scene(uint64_t until)
         damage();
     if (one_in(4))
         talk(until);
+    if (one_in(8))
+        play_day(until);
     unsigned length = laid ? 100 + below(200) : 200 + below(2000);
     for (unsigned i = 0; i < length && calls < until; i++) {
         one_call();
@@ -2144,6 +2145,7 @@ static void print_counts(void)
     printf("long messages that came out %" PRIu64 ", compared with what was cut up %" PRIu64 ", of 255 packets %" PRIu64 ", the longest %" PRIu64 " bytes; sessions replaced %" PRIu64
         "; configured messages read by their key %" PRIu64 "; calls on strange head words %" PRIu64 "\n", finished, cut_up, of_255, longest_message, replaced, carried, strange_calls);
     printf("the whole box compared %" PRIu64 " times\n", checks);
+    print_days();
 }
 
 int main(int argc, char **argv)
@@ -2158,6 +2160,7 @@ int main(int argc, char **argv)
     set_talkers();
     start_talk();
     fill_bytes(lent.payload, plain_payload, sizeof lent.payload);
+    start_days();
     while (calls < until)
         play_scene(until);
     print_counts();

@@ -7,7 +7,8 @@ use lib.ListN.{getD}
 use Rattle.words.proofs.Tests.{test}
 use Rattle.message.specs.Message.{heard}
 use Rattle.record.specs.Record.{Bytes, recordIn}
-use Rattle.record.specs.Cut.{wholeIn, recordAt, overTo, over}
+use Rattle.record.specs.Cut.{wholeIn, recordAt, overTo}
+use Rattle.record.specs.Sized.{overToBy, overBy}
 use Rattle.record.specs.Chunk.{leftIn, carried}
 use Rattle.record.proofs.Bytes.{bytes-take, data-bytes}
 use Rattle.history.specs.History.{Event, isEmpty, keys, kept}
@@ -43,7 +44,7 @@ unfolding step recorded
 kept-record r b s h k = kept-frame (s .words) h (recordIn r .id) (recordIn r .len) (recordIn r .bytes) b k
 
 kept-records : (log : List ℕ) → Bytes log → (s : State) (h : List Event) → Kept (s .words) h → (n : ℕ) → Kept (overTo step s log n .words) (overTo recorded h log n)
-unfolding overTo
+unfolding overToBy
 kept-records log b s h k zero = k
 kept-records log b s h k (suc n) = kept-record (recordAt log n) (data-bytes log n b) (overTo step s log n) (overTo recorded h log n) (kept-records log b s h k n)
 
@@ -53,7 +54,7 @@ bytes-append (x ∷ a) b p q = (p .0, bytes-append a b (p .1) q)
 
 kept-feed : (t : List ℕ) (h : List Event) (s : Tally) (chunk : List ℕ) → Bytes (s .carry) → Bytes chunk → Kept t h
     → Kept (feeding t s chunk .words) (eventsAfter h (Feeds s chunk))
-unfolding feeding over
+unfolding feeding overBy
 kept-feed t h s chunk a b k =
     let log = carried (s .left) (s .carry) ++ chunk in
     kept-records log (bytes-append (carried (s .left) (s .carry)) chunk (bytes-take (leftIn (s .left)) (s .carry) a) b) (state t (s .counts)) h k (wholeIn log)

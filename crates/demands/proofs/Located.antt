@@ -12,7 +12,8 @@ use Rattle.message.specs.declared.Key.{Key}
 use Rattle.message.specs.declared.Message.{Message}
 use Rattle.message.specs.Message.{heard}
 use Rattle.record.specs.Record.{Bytes, recordIn}
-use Rattle.record.specs.Cut.{wholeIn, recordAt, overTo, over}
+use Rattle.record.specs.Cut.{wholeIn, recordAt, overTo}
+use Rattle.record.specs.Sized.{overToBy, overBy}
 use Rattle.record.specs.Chunk.{leftIn, carried}
 use Rattle.record.proofs.Bytes.{bytes-take, data-bytes}
 use Rattle.maps.specs.Maps.{Nothing, Held, placesWith, SameMembers}
@@ -46,14 +47,14 @@ taught-frame : (h : List Event) (id len : ℕ) (d : List ℕ) → ((i : ℕ) →
 taught-frame h id len d b u = taught-append (learns (heard id len d .message)) h (frame-taught id len d b) u
 
 taught-records : (log : List ℕ) → Bytes log → (h : List Event) → AllTaught h → (n : ℕ) → AllTaught (overTo recorded h log n)
-unfolding overTo recorded
+unfolding overToBy recorded
 taught-records log b h u zero = u
 taught-records log b h u (suc n) =
     let r = recordIn (recordAt log n) in
     taught-frame (overTo recorded h log n) (r .id) (r .len) (r .bytes) (data-bytes log n b) (taught-records log b h u n)
 
 called-taught : (h : List Event) (c : Call) → Carried c → AllTaught h → AllTaught (eventsAfter h c)
-unfolding over
+unfolding overBy
 called-taught h (Frame id len d) b u = taught-frame h id len d b u
 called-taught h (Forgets k) b u = (b, u)
 called-taught h (Sets k e) b u = (b, u)

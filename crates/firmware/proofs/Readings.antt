@@ -9,15 +9,19 @@ use Rattle.answers.specs.declared.Answer.{Answer}
 use Rattle.answers.proofs.Cases.{same-answer}
 use Rattle.message.specs.declared.Key.{Key}
 use Rattle.ask.specs.Ask.{Finding, Standing}
+use Rattle.bridge.specs.Bridge.{Answers, Stands}
 use Rattle.transport.specs.Rows.{Memory}
 use Rattle.transport.specs.Calls.{Received}
 use Rattle.firmware.specs.declared.Told.{Told}
+use Rattle.firmware.specs.declared.Answered.{Answered}
 use Rattle.firmware.specs.declared.Brought.{Brought}
 use Rattle.firmware.specs.declared.Held.{Held}
 use Rattle.firmware.specs.declared.Located.{Located}
 use Rattle.firmware.specs.declared.Log.{Log}
+use Rattle.firmware.specs.declared.Pair.{Pair}
 use Rattle.firmware.specs.declared.Placed.{Placed}
-use Rattle.firmware.specs.Told.{saidTo, toldOf, findingTo, standingTo, heldOf, tallyIn, broughtTo}
+use Rattle.firmware.specs.declared.Trace.{Trace}
+use Rattle.firmware.specs.Told.{saidTo, toldOf, findingTo, standingTo, heldOf, tallyIn, broughtTo, answersIn, pairTo, dayIn}
 
 -- one answer in 01's numbers, one struct
 pub same-told : (a b : Told) → saidTo a ≡ saidTo b → a ≡ b
@@ -56,3 +60,41 @@ pub same-brought : (a b : Brought) → (m : Memory) → (out : List ℕ) → bro
 same-brought a b m out e =
     let t = same-told (a .told) (b .told) (ap (λ (r : Received). r .answer) e) in
     λ i. record { told = t i; pgn = e i .pgn }
+
+-- one answer to a frame at a port, one struct
+pub same-answered : (a b : Answered) → answersIn a ≡ answersIn b → a ≡ b
+same-answered a b e =
+    let t = same-told (a .told) (b .told) (ap (λ (o : Answers). o .told) e) in
+    let x = same-told (a .first) (b .first) (ap (λ (o : Answers). o .first) e) in
+    let y = same-told (a .second) (b .second) (ap (λ (o : Answers). o .second) e) in
+    let z = same-told (a .third) (b .third) (ap (λ (o : Answers). o .third) e) in
+    λ i. record { told = t i; first = x i; second = y i; third = z i }
+
+-- one count of a pair, one struct
+pub same-pair : (a b : Pair) → pairTo a ≡ pairTo b → a ≡ b
+same-pair a b e =
+    let t = same-told (a .told) (b .told) (ap (λ (s : Stands). s .answer) e) in
+    λ i. record {
+      told = t i;
+      arrived = e i .counters .arrived;
+      filtered = e i .counters .filtered;
+      queued = e i .counters .queued;
+      sent = e i .counters .sent;
+      turned = e i .counters .turned;
+      refused = e i .counters .refused;
+      waiting = e i .waiting;
+    }
+
+-- one tally, one trace that C keeps
+pub same-trace : (a b : Trace) → dayIn a ≡ dayIn b → a ≡ b
+same-trace a b e =
+    λ i. record {
+      events = e i .counts .events;
+      frames = e i .counts .frames;
+      slots = e i .counts .slots;
+      commands = e i .counts .commands;
+      refused = e i .counts .refused;
+      other = e i .counts .other;
+      left = e i .left;
+      carry = e i .carry;
+    }

@@ -9,14 +9,19 @@ use Rattle.message.specs.declared.Key.{Key}
 use Rattle.firmware.specs.declared.Told.{Told}
 use Rattle.ask.specs.Ask.{Finding, Standing}
 use Rattle.feeding.specs.declared.Tally.{Tally}
+use Rattle.bridge.specs.Bridge.{Answers, answers, Stands, stands}
+use Rattle.replaying.specs.declared.Tally.{Tally as Day}
+use Rattle.firmware.specs.declared.Answered.{Answered}
 use Rattle.firmware.specs.declared.Brought.{Brought}
 use Rattle.firmware.specs.declared.Held.{Held}
 use Rattle.firmware.specs.declared.Located.{Located}
 use Rattle.firmware.specs.declared.Log.{Log}
 use Rattle.firmware.specs.declared.Meant.{Meant}
 use Rattle.firmware.specs.declared.Measured.{Measured}
+use Rattle.firmware.specs.declared.Pair.{Pair}
 use Rattle.firmware.specs.declared.Placed.{Placed}
 use Rattle.firmware.specs.declared.Row.{Row}
+use Rattle.firmware.specs.declared.Trace.{Trace}
 use Rattle.image.specs.Part.{Entry}
 use Rattle.meaning.specs.declared.Meaning.{Meaning}
 use Rattle.meaning.specs.declared.Scaled.{Scaled}
@@ -82,3 +87,23 @@ broughtOf a = record { told = toldOf (a .answer); pgn = a .pgn }
 -- the same with what the lent places hold afterwards
 abbrev pub broughtTo : Brought → Memory → List ℕ → Received
 broughtTo b m out = received (saidTo (b .told)) (b .pgn) m out
+
+-- what a frame at a port is answered
+abbrev pub answersIn : Answered → Answers
+answersIn a = answers (saidTo (a .told)) (saidTo (a .first)) (saidTo (a .second)) (saidTo (a .third))
+
+-- what is counted of a pair
+abbrev pub pairTo : Pair → Stands
+pairTo p =
+    stands
+    (saidTo (p .told))
+    (record { arrived = p .arrived; filtered = p .filtered; queued = p .queued; sent = p .sent; turned = p .turned; refused = p .refused })
+    (p .waiting)
+
+-- what is kept of a trace
+abbrev pub dayIn : Trace → Day
+dayIn t = record {
+  counts = record { events = t .events; frames = t .frames; slots = t .slots; commands = t .commands; refused = t .refused; other = t .other };
+  left = t .left;
+  carry = t .carry;
+}

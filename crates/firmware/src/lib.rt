@@ -24,10 +24,15 @@ ghost use Rattle.pairs.specs.declared.Command.the-variants.{Add, Delete, Renew}
 ghost use Rattle.ports.specs.Filters.{commanded, decided, freshWords};
 ghost use Rattle.transport.specs.Rows.{memory, freshHeads};
 ghost use Rattle.transport.specs.Calls.{requested, arrived};
-ghost use Rattle.firmware.specs.Told.{meantOf, measuredOf, rowTo, version, saidTo, toldOf, heldOf, findingTo, standingTo, tallyIn, broughtOf, broughtTo};
+ghost use Rattle.bridge.specs.Bridge.{bridge, freshBridge, answersOf, answering, inAnswers, offered, slottedAs, slotted, standingAs, standing};
+ghost use Rattle.replaying.specs.Feed.{started as startedTrace, fed as fedTrace, feeding as feedingTrace};
+ghost use Rattle.replaying.specs.Lines.{finished as finishedTrace};
+ghost use Rattle.firmware.specs.Told.{meantOf, measuredOf, rowTo, version, saidTo, toldOf, heldOf, findingTo, standingTo, tallyIn, broughtOf, broughtTo, answersIn, pairTo, dayIn};
 use answers::Answer;
 use ask::Found;
 use ask::Parameter;
+use bridge::Offered;
+use bridge::Standing;
 use contents::Listed;
 use feeding::Counts;
 use feeding::Tally;
@@ -168,6 +173,77 @@ fn brought_in_c(came: Arrived) -> Brought
     }
 }
 
+// What a frame at a port is answered: 0 and what each of the three other ports says, rising; or 15, and zeros that are no answers.
+#[repr(C)]
+pub struct Answered {
+    pub told: Told,
+    pub first: Told,
+    pub second: Told,
+    pub third: Told,
+}
+
+// What a frame at a port is answered, as C gets it.
+fn answered_in_c(offered: Offered) -> Answered
+    ensures { λ r. ⌜ answersIn r ≡ answersOf offered ⌝ }
+{
+    match offered {
+        Offered::To(x, y, z) => {
+            let told = in_c(answers::plainly(0));
+            let first = in_c(bridge::answer_to(x));
+            let second = in_c(bridge::answer_to(y));
+            let third = in_c(bridge::answer_to(z));
+            Answered {
+                told,
+                first,
+                second,
+                third,
+            }
+        }
+        Offered::NoPort => {
+            let told = in_c(answers::plainly(15));
+            let none = in_c(answers::plainly(0));
+            Answered {
+                told,
+                first: none,
+                second: none,
+                third: none,
+            }
+        }
+    }
+}
+
+// What is counted of a pair, and how many of its frames wait; all 0 on a refusal.
+#[repr(C)]
+pub struct Pair {
+    pub told: Told,
+    pub arrived: u64,
+    pub filtered: u64,
+    pub queued: u64,
+    pub sent: u64,
+    pub turned: u64,
+    pub refused: u64,
+    pub waiting: u64,
+}
+
+// What is counted of a pair, as C gets it.
+fn pair_in_c(standing: Standing) -> Pair
+    ensures { λ r. ⌜ pairTo r ≡ standingAs standing ⌝ }
+{
+    let answer = standing.answer;
+    let told = in_c(answer);
+    let counters = standing.counters;
+    Pair {
+        told,
+        arrived: counters.arrived,
+        filtered: counters.filtered,
+        queued: counters.queued,
+        sent: counters.sent,
+        turned: counters.turned,
+        refused: counters.refused,
+        waiting: standing.waiting,
+    }
+}
+
 // A held key, or four times 0. The fields are what the calls on a key take.
 #[repr(C)]
 pub struct Held {
@@ -234,6 +310,56 @@ fn tally_of(log: Log) -> Tally
             other: log.other,
         },
         left: log.left,
+        carry,
+    }
+}
+
+// What is kept of a trace from chunk to chunk: its counts, and the first `left` bytes of a record that is not whole yet.
+#[repr(C)]
+pub struct Trace {
+    pub events: u64,
+    pub frames: u64,
+    pub slots: u64,
+    pub commands: u64,
+    pub refused: u64,
+    pub other: u64,
+    pub left: usize,
+    pub carry: [u8; 14],
+}
+
+// A trace's tally as C keeps it.
+fn trace_of(day: replaying::Tally) -> Trace
+    ensures { λ r. ⌜ dayIn r ≡ day ⌝ }
+{
+    let counts = day.counts;
+    let carry = day.carry;
+    Trace {
+        events: counts.events,
+        frames: counts.frames,
+        slots: counts.slots,
+        commands: counts.commands,
+        refused: counts.refused,
+        other: counts.other,
+        left: day.left,
+        carry,
+    }
+}
+
+// The trace's tally that C kept.
+fn day_of(trace: Trace) -> replaying::Tally
+    ensures { λ r. ⌜ r ≡ dayIn trace ⌝ }
+{
+    let carry = trace.carry;
+    replaying::Tally {
+        counts: replaying::Counts {
+            events: trace.events,
+            frames: trace.frames,
+            slots: trace.slots,
+            commands: trace.commands,
+            refused: trace.refused,
+            other: trace.other,
+        },
+        left: trace.left,
         carry,
     }
 }
@@ -597,6 +723,100 @@ pub extern "C" fn yendrolf_filters_decide(
     ensures { λ r. ⌜ saidTo r ≡ decided (now (w .entry)) from to id ⌝ }
 {
     in_c(ports::decide(w, from, to, id))
+}
+
+// ---- the bridge
+
+// Makes all counters 0, and all queues empty.
+#[no_mangle]
+pub extern "C" fn yendrolf_bridge_fresh(
+    c: &mut [u64; bridge::COUNTERS],
+    q: &mut [u64; bridge::QUEUES],
+)
+    ensures { λ r. ⌜ bridge (now (c .exit)) (now (q .exit)) ≡ freshBridge ⌝ }
+{
+    bridge::fresh(c, q)
+}
+
+// Offers a frame that came in at a port to the three others.
+#[no_mangle]
+pub extern "C" fn yendrolf_bridge_offer(
+    c: &mut [u64; bridge::COUNTERS],
+    q: &mut [u64; bridge::QUEUES],
+    w: &[u32; ports::WORDS],
+    from: u8,
+    id: u32,
+) -> Answered
+    ensures { λ r. ⌜ answering (answersIn r) (bridge (now (c .exit)) (now (q .exit)))
+        ≡ inAnswers (offered (bridge (now (c .entry)) (now (q .entry))) (now (w .entry)) from id) ⌝ }
+{
+    answered_in_c(bridge::offer(c, q, w, from, id))
+}
+
+// A slot of a port: the frame that is next leaves.
+#[no_mangle]
+pub extern "C" fn yendrolf_bridge_slot(
+    c: &mut [u64; bridge::COUNTERS],
+    q: &mut [u64; bridge::QUEUES],
+    port: u8,
+    from: &mut u8,
+    id: &mut u32,
+) -> Told
+    ensures { λ r. ⌜ slottedAs (saidTo r) (bridge (now (c .exit)) (now (q .exit))) (now (from .exit)) (now (id .exit))
+        ≡ slotted (bridge (now (c .entry)) (now (q .entry))) port (now (from .entry)) (now (id .entry)) ⌝ }
+{
+    in_c(bridge::slot(c, q, port, from, id))
+}
+
+// What is counted of a pair, and what waits.
+#[no_mangle]
+pub extern "C" fn yendrolf_bridge_pair(
+    c: &[u64; bridge::COUNTERS],
+    q: &[u64; bridge::QUEUES],
+    from: u8,
+    to: u8,
+) -> Pair
+    ensures { λ r. ⌜ pairTo r ≡ standing (bridge (now (c .entry)) (now (q .entry))) from to ⌝ }
+{
+    pair_in_c(bridge::pair(c, q, from, to))
+}
+
+// ---- the replay of a trace
+
+// Nothing read yet.
+#[no_mangle]
+pub extern "C" fn yendrolf_start_trace() -> Trace
+    ensures { λ r. ⌜ dayIn r ≡ startedTrace ⌝ }
+{
+    trace_of(replaying::start())
+}
+
+// Takes the next chunk of a trace.
+#[no_mangle]
+pub extern "C" fn yendrolf_bridge_feed(
+    c: &mut [u64; bridge::COUNTERS],
+    q: &mut [u64; bridge::QUEUES],
+    w: &mut [u32; ports::WORDS],
+    trace: Trace,
+    chunk: &[u8],
+) -> Trace
+    ensures { λ r. ⌜ fedTrace (bridge (now (c .exit)) (now (q .exit))) (now (w .exit)) (dayIn r)
+        ≡ feedingTrace (bridge (now (c .entry)) (now (q .entry))) (now (w .entry)) (dayIn trace) (now (chunk .entry)) ⌝ }
+{
+    trace_of(replaying::feed(c, q, w, day_of(trace), chunk))
+}
+
+// Lays the text of a replay over the start of `text`.
+#[no_mangle]
+pub extern "C" fn yendrolf_bridge_finish(
+    c: &[u64; bridge::COUNTERS],
+    q: &[u64; bridge::QUEUES],
+    trace: Trace,
+    text: &mut [u8],
+) -> Told
+    ensures { λ r. ⌜ outcome (saidTo r) (now (text .exit)) ≡ finishedTrace (bridge (now (c .entry)) (now (q .entry))) (dayIn trace) (now (text .entry)) ⌝ }
+{
+    in_c(replaying::finish(c, q, day_of(trace), text))
 }
 
 // ---- long messages

@@ -13,7 +13,7 @@ use Rattle.maps.specs.Maps.{sameKey, sameHead, samePlace, contradicts, conflict
 use Rattle.judge.specs.Judge.{notAbove, firstNamed, judgeOver}
 use Rattle.history.specs.History.{noRoom, editionOf}
 use Rattle.record.specs.Record.{recordIn}
-use Rattle.record.specs.Cut.{wholeIn, recordAt, leftOf, overTo, over}
+use Rattle.record.specs.Sized.{wholeBy, recordBy, leftBy, overToBy, overBy}
 use Rattle.listing.specs.Lines.{keyLine, lastLine, listingWith}
 use Rattle.listing.specs.Listing.{tell, storyOf, sorted, listingOf}
 
@@ -24,9 +24,9 @@ caseA =
     ∷ 38 ∷ 39 ∷ 176 ∷ 24 ∷ 8 ∷ 0 ∷ 177 ∷ 0 ∷ 239 ∷ 5 ∷ 2 ∷ 130 ∷ 9 ∷ []
 
 pub empty-log : listingOf [] ≡ spelt "SRC DST MSG N JUDGED AT\nRECORDS 0 REFUSED 0 OTHER 0 LEFT 0\n"
-unfolding listingOf storyOf over overTo wholeIn leftOf listingWith lastLine sorted flatten flatMap decimalOf decimalTo
+unfolding listingOf storyOf overBy overToBy wholeBy leftBy listingWith lastLine sorted flatten flatMap decimalOf decimalTo
 empty-log = refl
 
 pub two-records : listingOf caseA ≡ spelt "SRC DST MSG N JUDGED AT\n38 39 1 2 0 0\nRECORDS 2 REFUSED 0 OTHER 0 LEFT 0\n"
-unfolding listingOf storyOf over overTo wholeIn leftOf recordAt recordIn tell heard listingWith keyLine lastLine sorted flatten flatMap decimalOf decimalTo sameKey sameHead samePlace contradicts conflict noRoom editionOf widthBy widthIn notAbove firstNamed judgeOver lowest table first any sharesBit meet odd skipped place endOf sizeOf bytesFor endTo tabulate
+unfolding listingOf storyOf overBy overToBy wholeBy leftBy recordBy recordIn tell heard listingWith keyLine lastLine sorted flatten flatMap decimalOf decimalTo sameKey sameHead samePlace contradicts conflict noRoom editionOf widthBy widthIn notAbove firstNamed judgeOver lowest table first any sharesBit meet odd skipped place endOf sizeOf bytesFor endTo tabulate
 two-records = refl

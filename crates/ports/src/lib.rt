@@ -18,7 +18,7 @@ fn two_ports(from: u8, to: u8) -> bool
 }
 
 // The number of a pair, 0 to 11, or 12 where the ports are no pair.
-fn pair_of(from: u8, to: u8) -> usize
+pub fn pair_of(from: u8, to: u8) -> usize
     ensures { λ r. ⌜ r ≡ pairOf from to ⌝ }
 {
     if two_ports(from, to) {

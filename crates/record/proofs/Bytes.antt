@@ -6,6 +6,7 @@ use mathlib.Core.List.{List, [], _∷_}
 use borrow.Author.Tests.{lt-ltb, le-ltb}
 use lib.ListN.{length, getD, take, drop}
 use Rattle.record.specs.Record.{Bytes, recordIn}
+use Rattle.record.specs.Sized.{recordBy}
 use Rattle.record.specs.Cut.{recordAt}
 
 pub byte-at : (l : List ℕ) (i : ℕ) → Bytes l → getD l i 0 < 256
@@ -35,5 +36,5 @@ record-bytes r b =
 
 -- of each record of a log
 pub data-bytes : (log : List ℕ) (n : ℕ) → Bytes log → (i : ℕ) → getD (recordIn (recordAt log n) .bytes) i 0 < 256
-unfolding recordAt
+unfolding recordBy
 data-bytes log n b i = byte-at (recordIn (recordAt log n) .bytes) i (record-bytes (recordAt log n) (bytes-take 13 (drop (n * 13) log) (bytes-drop (n * 13) log b)))

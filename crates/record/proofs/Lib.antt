@@ -1,4 +1,5 @@
 pub mod Laws
+pub mod Sized
 pub mod Cutting
 pub mod Chunks
 pub mod Bytes

@@ -1,3 +1,4 @@
 pub mod Record
+pub mod Sized
 pub mod Cut
 pub mod Chunk

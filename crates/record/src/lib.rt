@@ -90,11 +90,6 @@ pub fn joined(carry: &[u8], more: &[u8]) -> [u8; SIZE]
     ensures { λ r. ⌜ r ≡ padded (now (carry .entry) ++ now (more .entry)) ⌝ }
 {
     let mut b = [0u8; SIZE];
-    splice::copy_in(&mut b, carry);
-    let n = carry.len();
-    if n < SIZE {
-        splice::copy_in(&mut b[n..], more);
-        return b;
-    }
+    splice::join_in(&mut b, carry, more);
     b
 }

@@ -62,9 +62,9 @@ length-splice l at x h = simp (length-append, length-take, length-drop) (omega a
 -- ---- one list after another over the start of d
 
 -- the second covers what the first left of d, as a part that was lent and came back
-pub covered-next : (d x y u v : List ℕ) → length x ≤ length d → u ≡ covered d x → v ≡ covered (take (length d - length x) (drop (length x) u)) y
-    → take (length x) u ++ (v ++ drop (length d - length x) (drop (length x) u)) ≡ covered d (x ++ y)
-covered-next d x y u v h p q =
+pub covered-next : (d x y u v : List ℕ) → length x ≤ length d → length u ≡ length d → u ≡ covered d x → v ≡ covered (take (length u - length x) (drop (length x) u)) y
+    → take (length x) u ++ (v ++ drop (length u - length x) (drop (length x) u)) ≡ covered d (x ++ y)
+covered-next d x y u v h l p q =
     let n : length (drop (length x) d) ≡ length d - length x = length-drop (length x) d in
     let first : u ≡ x ++ drop (length x) d = p ∙ rw (take-all (length d) x h) in
     let rest : drop (length x) u ≡ drop (length x) d = ap (drop (length x)) first ∙ drop-append-seam x (drop (length x) d) in
@@ -73,7 +73,7 @@ covered-next d x y u v h p q =
     let sum : length d ≡ length x + (length d - length x) = omega arith in
     let whole : take (length d) (x ++ y) ≡ x ++ take (length d - length x) y =
     ap (λ (k : ℕ). take k (x ++ y)) sum ∙ take-append-add x y (length d - length x) in
-    rw (q, rest, part, none, ap (take (length x)) first, take-append-seam x (drop (length x) d), n, whole, length-append x y, drop-drop (length y) (length x) d, append-nil, append-assoc)
+    rw (q, l, rest, part, none, ap (take (length x)) first, take-append-seam x (drop (length x) d), n, whole, length-append x y, drop-drop (length y) (length x) d, append-nil, append-assoc)
 
 -- the second finds nothing left
 pub covered-full : (d x y : List ℕ) → length d ≤ length x → covered d x ≡ covered d (x ++ y)

@@ -1,5 +1,6 @@
 // Bytes laid into a lent buffer, from a given byte on and nowhere else.
 ghost use mathlib.Core.Path.{_≡_};
+ghost use mathlib.Core.List.{_++_};
 ghost use Prim.Native.Nat.{_+_, min};
 ghost use Rattle.splice.specs.Splice.{covered, fits, laid};
 
@@ -20,6 +21,18 @@ pub fn copy_in(dst: &mut [u8], src: &[u8])
         dst[i] = src[i];
         i += 1;
     }
+}
+
+// Copies one list and then another over the start of dst, as far as it reaches.
+pub fn join_in(dst: &mut [u8], first: &[u8], second: &[u8])
+    ensures { λ _. ⌜ now (dst .exit) ≡ covered (now (dst .entry)) (now (first .entry) ++ now (second .entry)) ⌝ }
+{
+    copy_in(dst, first);
+    let n = first.len();
+    if dst.len() <= n {
+        return;
+    }
+    copy_in(&mut dst[n..], second);
 }
 
 // Copies src into dst from `at` on, where it has room; else nothing changes.

@@ -1,0 +1,188 @@
+// A simulated bridge of four ports (02, Req 09): a frame that came in at a port is offered to the three others, each answering by its filter and its queue, and a slot lets one frame leave
+// a port. The counters of the twelve pairs and the queues of the four ports lie in words that the caller lends, beside the filters of the room `ports`
+// (specs/Bridge.antt). Whatever these words hold, each call has its defined answer.
+ghost use mathlib.Core.Path.{_≡_};
+ghost use Prim.Native.Nat.{_-_, _≤_};
+ghost use Rattle.answers.specs.Answers.{inNumbers};
+ghost use Rattle.ports.specs.Filters.{decided};
+ghost use Rattle.queue.specs.Row.{wordOf, entersAt};
+ghost use Rattle.bridge.specs.Bridge.{bridge, freshBridge, isPort, firstOther, secondOther, thirdOther, met, metBy, answerTo, replied, offeredTo, offers, offered, slottedAs, slotted, standingAs, standing};
+use answers::Answer;
+use counters::Counters;
+use counters::Fate;
+
+// The words of the counters, six for each of twelve pairs.
+pub const COUNTERS: usize = 72;
+
+// The words of the queues, 65 for each of four ports.
+pub const QUEUES: usize = 260;
+
+// What becomes of a frame that came in at a port: at each of the three other ports, rising; or that it was no port, which is answered 15.
+pub enum Offered {
+    To(Fate, Fate, Fate),
+    NoPort,
+}
+
+// The counters of a pair, and how many of its frames wait; all 0 with 15.
+pub struct Standing {
+    pub answer: Answer,
+    pub counters: Counters,
+    pub waiting: u64,
+}
+
+// Whether a port is 1 to 4.
+fn is_port(port: u8) -> bool
+    ensures { λ r. ⌜ r ≡ isPort port ⌝ }
+{
+    (1 <= port) & (port <= 4)
+}
+
+// The three ports other than one, rising.
+fn first_other(port: u8) -> u8
+    ensures { λ r. ⌜ (r ≡ firstOther port) × (1 ≤ r) ⌝ }
+{
+    frame::pick8(port == 1, 2, 1)
+}
+
+fn second_other(port: u8) -> u8
+    ensures { λ r. ⌜ (r ≡ secondOther port) × (1 ≤ r) ⌝ }
+{
+    frame::pick8(port <= 2, 3, 2)
+}
+
+fn third_other(port: u8) -> u8
+    ensures { λ r. ⌜ (r ≡ thirdOther port) × (1 ≤ r) ⌝ }
+{
+    frame::pick8(port <= 3, 4, 3)
+}
+
+// What the port answers that a frame was offered to, or left.
+pub fn answer_to(fate: Fate) -> Answer
+    ensures { λ r. ⌜ inNumbers r ≡ answerTo fate ⌝ }
+{
+    match fate {
+        Fate::Refused => answers::plainly(1),
+        Fate::Filtered => answers::with_detail(0, 0),
+        Fate::Turned => answers::plainly(26),
+        Fate::Queued => answers::with_detail(0, 1),
+        Fate::Sent => answers::with_detail(0, 1),
+    }
+}
+
+// ---- a frame
+
+// What becomes of a frame at a port that it is offered to: refused, then filtered, then queued where fewer than 64 wait there, else turned away.
+fn meet(q: &mut [u64; QUEUES], w: &[u32; ports::WORDS], from: u8, to: u8, id: u32) -> Fate
+    requires { ⌜ 1 ≤ to ⌝ }
+    ensures { λ r. ⌜ met r (now (q .exit))
+        ≡ metBy (decided (now (w .entry)) from to id) (entersAt (now (q .entry)) (to - 1) (wordOf from id)) (now (q .entry)) ⌝ }
+{
+    let a = ports::decide(w, from, to, id);
+    if a.number != 0 {
+        return Fate::Refused;
+    }
+    if a.detail == 0 {
+        return Fate::Filtered;
+    }
+    if queue::enter(q, to as usize - 1, queue::word_of(from, id)) {
+        return Fate::Queued;
+    }
+    Fate::Turned
+}
+
+// Offers a frame to one port, and counts what becomes of it at the pair.
+fn offer_to(
+    c: &mut [u64; COUNTERS],
+    q: &mut [u64; QUEUES],
+    w: &[u32; ports::WORDS],
+    from: u8,
+    to: u8,
+    id: u32,
+) -> Fate
+    requires { ⌜ 1 ≤ to ⌝ }
+    ensures { λ r. ⌜ replied r (bridge (now (c .exit)) (now (q .exit)))
+        ≡ offeredTo (bridge (now (c .entry)) (now (q .entry))) (now (w .entry)) from to id ⌝ }
+{
+    let fate = meet(q, w, from, to, id);
+    counters::note(c, ports::pair_of(from, to), fate);
+    fate
+}
+
+// Takes a frame that came in at a port: it is offered to the three other ports, rising.
+pub fn offer(
+    c: &mut [u64; COUNTERS],
+    q: &mut [u64; QUEUES],
+    w: &[u32; ports::WORDS],
+    from: u8,
+    id: u32,
+) -> Offered
+    ensures { λ r. ⌜ offers r (bridge (now (c .exit)) (now (q .exit)))
+        ≡ offered (bridge (now (c .entry)) (now (q .entry))) (now (w .entry)) from id ⌝ }
+{
+    if is_port(from) {
+        let first = offer_to(c, q, w, from, first_other(from), id);
+        let second = offer_to(c, q, w, from, second_other(from), id);
+        let third = offer_to(c, q, w, from, third_other(from), id);
+        return Offered::To(first, second, third);
+    }
+    Offered::NoPort
+}
+
+// ---- a slot
+
+// A slot of a port: 15 where it is none; 0 with detail 0 where no frame waits there; else the earliest of the highest priority leaves, and 0 with detail 1, and `from` and `id` are
+// where it came from and its identifier. In the other cases they stay.
+pub fn slot(
+    c: &mut [u64; COUNTERS],
+    q: &mut [u64; QUEUES],
+    port: u8,
+    from: &mut u8,
+    id: &mut u32,
+) -> Answer
+    ensures { λ r. ⌜ slottedAs (inNumbers r) (bridge (now (c .exit)) (now (q .exit))) (now (from .exit)) (now (id .exit))
+        ≡ slotted (bridge (now (c .entry)) (now (q .entry))) port (now (from .entry)) (now (id .entry)) ⌝ }
+{
+    if is_port(port) {
+        let left = queue::leave(q, port as usize - 1);
+        if left.any {
+            let source = queue::from_in(left.word);
+            counters::note(c, ports::pair_of(source, port), Fate::Sent);
+            *from = source;
+            *id = queue::id_in(left.word);
+            return answer_to(Fate::Sent);
+        }
+        return answers::plainly(0);
+    }
+    answers::plainly(15)
+}
+
+// ---- what stands in the words
+
+// The counters of a pair and what waits: 15, or 0.
+pub fn pair(c: &[u64; COUNTERS], q: &[u64; QUEUES], from: u8, to: u8) -> Standing
+    ensures { λ r. ⌜ standingAs r ≡ standing (bridge (now (c .entry)) (now (q .entry))) from to ⌝ }
+{
+    let i = ports::pair_of(from, to);
+    let counters = counters::at(c, i);
+    if i < 12 {
+        let waiting = queue::waiting_from(q, to as usize - 1, from);
+        return Standing {
+            answer: answers::plainly(0),
+            counters,
+            waiting: waiting as u64,
+        };
+    }
+    Standing {
+        answer: answers::plainly(15),
+        counters,
+        waiting: 0,
+    }
+}
+
+// Makes counters that are all 0, and queues in which nothing waits.
+pub fn fresh(c: &mut [u64; COUNTERS], q: &mut [u64; QUEUES])
+    ensures { λ _. ⌜ bridge (now (c .exit)) (now (q .exit)) ≡ freshBridge ⌝ }
+{
+    words::clear(c);
+    words::clear(q);
+}

@@ -1,0 +1,4 @@
+pub mod Leaving
+pub mod Scan
+pub mod Words
+pub mod Rows

@@ -1,0 +1,4 @@
+pub mod Counts
+pub mod Feed
+pub mod Lines
+pub mod Replay
