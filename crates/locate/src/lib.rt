@@ -27,8 +27,8 @@ use message::Message;
 use message::Place;
 use record::SIZE;
 
-// The PGN of a Parameter Locate.
-const PARAMETER_LOCATE: u32 = 44800;
+// The PF of a Parameter Locate's PGN, 44800.
+const PARAMETER_LOCATE: u8 = 175;
 
 // The address of everybody.
 const EVERYBODY: u8 = 255;

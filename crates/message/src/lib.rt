@@ -1,6 +1,7 @@
 // What one Configuration Identification Message says (01, "What one message says"; docs/WIRE.md has 002's words).
 ghost use mathlib.Core.Path.{_≡_};
-ghost use Prim.Native.Nat.{_-_};
+ghost use Prim.Native.Nat.{_*_, _-_, _^_};
+ghost use mathlib.Core.Bool.{not};
 ghost use lib.Dec.{eqb};
 ghost use Rattle.frame.specs.Frame.{pgnOf};
 ghost use Rattle.message.specs.Message.{wireOf, foreign, unflagged, miscounted, misplaced, servedTests, frameTests, dataTests, messageOf, heardOf, heardFrom, heard};
@@ -111,21 +112,30 @@ pub fn is_misplaced(start: u32) -> bool
     (start == 0) | (14280 < start) | (250 < start)
 }
 
-// Whether a frame's PGN is 45056, that of a Configuration Identification Message. PF 176 is below 240, so that PS is no part of the PGN, and the three fields
-// above it say all.
-pub fn is_configuration(f: Fields) -> bool
-    ensures { λ r. ⌜ r ≡ eqb (pgnOf f) 45056 ⌝ }
+// The PF of a Configuration Identification Message, whose PGN is 45056.
+const CONFIGURATION: u8 = 176;
+
+// Whether a frame's PGN is 256 times this PF. Below 240 PS is no part of the PGN, so that the three fields above it say all; from there on PS has to be 0.
+pub fn is_of(pf: u8, f: Fields) -> bool
+    ensures { λ r. ⌜ r ≡ eqb (pgnOf f) (pf * 2 ^ 8) ⌝ }
 {
-    (f.reserved == 0) & (f.page == 0) & (f.pf == 176)
+    (f.reserved == 0) & (f.page == 0) & (f.pf == pf) & ((pf < 240) | (f.ps == 0))
 }
 
-// For later calls on a frame: the first of 1, 2 (by the PGN that a call serves) and 3 that applies, or 0. No data byte is asked for.
-pub fn served_fault(pgn: u32, id: u32, len: u8, f: Fields) -> u8
-    ensures { λ r. ⌜ r ≡ firstOf (servedTests pgn id len f) 0 ⌝ }
+// For later calls on a frame: the first of 1, 2 (by the PGN that a call serves, 256 times a PF) and 3 that applies, or 0. No data byte is asked for.
+pub fn served_fault(pf: u8, id: u32, len: u8, f: Fields) -> u8
+    ensures { λ r. ⌜ r ≡ firstOf (servedTests (pf * 2 ^ 8) id len f) 0 ⌝ }
 {
     let three = pick8(len != 8, 3, 0);
-    let two = pick8(frame::pgn(f) != pgn, 2, three);
+    let two = pick8(!is_of(pf, f), 2, three);
     pick8(frame::GREATEST < id, 1, two)
+}
+
+// Whether one of them applies: one comparison, for calls that ask for the number only where there is one.
+pub fn is_refused(pf: u8, id: u32, len: u8, f: Fields) -> bool
+    ensures { λ r. ⌜ r ≡ not (eqb (firstOf (servedTests (pf * 2 ^ 8) id len f) 0) 0) ⌝ }
+{
+    (frame::GREATEST < id) | !is_of(pf, f) | (len != 8)
 }
 
 // The first of 1 to 4 that applies, or 0. No data byte is asked for.
@@ -134,7 +144,7 @@ pub fn frame_fault(id: u32, len: u8, f: Fields) -> u8
 {
     let four = pick8(254 <= f.source, 4, 0);
     let three = pick8(len != 8, 3, four);
-    let two = pick8(!is_configuration(f), 2, three);
+    let two = pick8(!is_of(CONFIGURATION, f), 2, three);
     pick8(frame::GREATEST < id, 1, two)
 }
 

@@ -3,7 +3,7 @@
 ghost use mathlib.Core.Path.{_≡_};
 ghost use Prim.Native.Nat.{_≤_};
 ghost use lib.ListN.{length};
-ghost use Rattle.places.specs.Place.{sizeOf, unplacedIn};
+ghost use Rattle.places.specs.Place.{sizeOf, unplacedIn, endPlaced};
 ghost use Rattle.bits.specs.Bits.{bytesWith};
 ghost use Rattle.payload.specs.Payload.{packed, readAll};
 ghost use Rattle.payload.specs.Calls.{left, needsMore, tooWideIn, packing, reading};
@@ -17,12 +17,12 @@ pub enum Laying {
     TooWide(u8),
 }
 
-// L of a map whose parameters all have a place.
-fn map_size(starts: &[u32], widths: &[u32]) -> usize
-    requires { ⌜ unplacedIn (now starts) (now widths) ≡ 0 ⌝ }
+// L of a map whose parameters all have a place, from its largest end.
+fn map_size(starts: &[u32], widths: &[u32], end: u64) -> usize
+    requires { ⌜ (unplacedIn (now starts) (now widths) ≡ 0) × (end ≡ endPlaced (now starts) (now widths)) ⌝ }
     ensures { λ r. ⌜ (r ≡ sizeOf (now (starts .entry)) (now (widths .entry))) × (r ≤ 1785) ⌝ }
 {
-    places::bytes_for(places::largest_end(starts.len(), starts, widths)) as usize
+    places::bytes_for(end) as usize
 }
 
 // Whether a number needs more than its width.
@@ -80,11 +80,11 @@ fn pack_into(starts: &[u32], widths: &[u32], numbers: &[u32], out: &mut [u8])
 pub fn pack(starts: &[u32], widths: &[u32], numbers: &[u32], out: &mut [u8]) -> Laying
     ensures { λ r. ⌜ left r (now (out .exit)) ≡ packing (now (starts .entry)) (now (widths .entry)) (now (numbers .entry)) (now (out .entry)) ⌝ }
 {
-    let bad = places::unplaced(starts, widths);
-    if 0 < bad {
-        return Laying::Unplaced(bad);
+    let map = places::measure(starts, widths);
+    if 0 < map.unplaced {
+        return Laying::Unplaced(map.unplaced);
     }
-    let size = map_size(starts, widths);
+    let size = map_size(starts, widths, map.end);
     if (numbers.len() != starts.len()) | (out.len() < size) {
         return Laying::Length;
     }
@@ -114,11 +114,11 @@ fn read_into(starts: &[u32], widths: &[u32], payload: &[u8], room: &mut [u32])
 pub fn read(starts: &[u32], widths: &[u32], payload: &[u8], room: &mut [u32]) -> Laying
     ensures { λ r. ⌜ left r (now (room .exit)) ≡ reading (now (starts .entry)) (now (widths .entry)) (now (payload .entry)) (now (room .entry)) ⌝ }
 {
-    let bad = places::unplaced(starts, widths);
-    if 0 < bad {
-        return Laying::Unplaced(bad);
+    let map = places::measure(starts, widths);
+    if 0 < map.unplaced {
+        return Laying::Unplaced(map.unplaced);
     }
-    let size = map_size(starts, widths);
+    let size = map_size(starts, widths, map.end);
     let n = starts.len();
     if (payload.len() != size) | (room.len() < n) {
         return Laying::Length;

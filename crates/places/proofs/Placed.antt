@@ -1,14 +1,14 @@
 -- Parameters that have a place, and maps of which every parameter has one. Assumes nothing.
-use mathlib.Core.Path.{_≡_}
+use mathlib.Core.Path.{_≡_, sym, ap, _∙_}
 use mathlib.Core.Bool.{false, _||_}
 use mathlib.Core.List.{List}
-use Prim.Native.Nat.{ℕ, zero, suc, _*_, _≤_, _<_}
+use Prim.Native.Nat.{ℕ, zero, suc, _+_, _*_, _≤_, _<_}
 use native.Mathlib.Decide.{decLt}
 use native.Mathlib.Omega.{arith}
-use borrow.Author.Tests.{le-ltb, leb-false, ltb-false, lt-leb}
+use borrow.Author.Tests.{le-ltb, leb-false, ltb-false, lt-leb, ne-eqb}
 use lib.Dec.{leb, ltb}
 use lib.ListN.{length, getD, List·getD-eq-default}
-use Rattle.places.specs.Place.{endOf, endIn, endTo, bytesFor, sizeOf, lacksPlace, unplacedIn}
+use Rattle.places.specs.Place.{endOf, endIn, endTo, bytesFor, sizeOf, lacksPlace, unplacedIn, endPlaced}
 use Rattle.words.proofs.Lowest.{neither, lowest-none, lowest-each}
 use Rattle.places.proofs.Place.{end-le, end-in}
 
@@ -59,6 +59,24 @@ module _ (ss ws : List ℕ) (u : unplacedIn ss ws ≡ 0) where
   -- each number has at most 32 bits, and lies in the L bytes
   pub placed-in : (i : ℕ) → i < length ss → (getD ws i 0 ≤ 32) × (endIn ss ws i ≤ 8 * sizeOf ss ws)
   placed-in i l = omega (arith, placed-at i l, end-le ss ws i (length ss) l, end-in ss ws)
+
+-- the end of a map whose parameters all have a place
+end-all : (ss ws : List ℕ) → unplacedIn ss ws ≡ 0 → endTo ss ws (length ss) ≡ endPlaced ss ws
+unfolding endPlaced
+end-all ss ws e = rw e
+
+-- what a walk over a map found that stopped at index i, and one that stopped nowhere
+pub walk-stopped : (ss ws : List ℕ) (i : ℕ) → i + 1 ≡ unplacedIn ss ws → (i + 1 ≡ unplacedIn ss ws) × (0 ≡ endPlaced ss ws)
+unfolding endPlaced
+walk-stopped ss ws i e = (e, rw (ne-eqb (unplacedIn ss ws) 0 (λ z. omega arith)))
+
+pub walk-done : (ss ws : List ℕ) (end i : ℕ) → 0 ≡ unplacedIn ss ws → end ≡ endTo ss ws i → i ≡ length ss → (0 ≡ unplacedIn ss ws) × (end ≡ endPlaced ss ws)
+walk-done ss ws end i e b n = (e, b ∙ ap (endTo ss ws) n ∙ end-all ss ws (sym e))
+
+-- L of a map whose parameters all have a place, from that end
+pub size-measured : (ss ws : List ℕ) (end bytes : ℕ) → unplacedIn ss ws ≡ 0 → end ≡ endPlaced ss ws → bytes ≡ bytesFor end → bytes ≡ sizeOf ss ws
+unfolding sizeOf
+size-measured ss ws end bytes u e b = b ∙ ap bytesFor (e ∙ sym (end-all ss ws u))
 
 -- a map whose parameters all have a place lacks none
 pub none-unplaced : (ss ws : List ℕ) → ((i : ℕ) → i < length ss → Placed i (getD ss i 0) (getD ws i 0)) → unplacedIn ss ws ≡ 0

@@ -71,6 +71,10 @@ lacksPlace i start width = leb 64 i || ltb width 1 || ltb 32 width || ltb 14280 
 unfoldable pub unplacedIn : List ℕ → List ℕ → ℕ
 unplacedIn ss ws = lowest (λ i. lacksPlace i (getD ss i 0) (getD ws i 0)) (length ss)
 
+-- the largest end of a map, or 0 where a position has no place
+unfoldable pub endPlaced : List ℕ → List ℕ → ℕ
+endPlaced ss ws = cond (eqb (unplacedIn ss ws) 0) (endTo ss ws (length ss)) 0
+
 -- what the laws of packing and reading ask of a map: two of its bits that have one place are the same bit, and every place lies in the L bytes
 pub record Apart (ss ws : List ℕ) : Type 0 where
   pub once : (i j k l : ℕ) → i < length ss → j < length ss → k < getD ws i 0 → l < getD ws j 0

@@ -3,7 +3,7 @@
 ghost use mathlib.Core.Path.{_≡_};
 ghost use Prim.Native.Nat.{_+_, _*_, _/_, _^_, _<_, max};
 ghost use lib.ListN.{getD};
-ghost use Rattle.places.specs.Place.{odd, skipped, place, endOf, meet, sharesBit, endTo, bytesFor, lacksPlace, unplacedIn};
+ghost use Rattle.places.specs.Place.{odd, skipped, place, endOf, meet, sharesBit, bytesFor, lacksPlace, unplacedIn, endPlaced};
 
 // Whether a width is above 8 and no multiple of 8: its last, partial byte is filled from the top.
 pub fn is_odd(width: u32) -> bool
@@ -86,19 +86,6 @@ fn larger(x: u64, y: u64) -> u64
     if x < y { y } else { x }
 }
 
-// The largest end of the first n parameters.
-pub fn largest_end(n: usize, starts: &[u32], widths: &[u32]) -> u64
-    ensures { λ r. ⌜ r ≡ endTo (now (starts .entry)) (now (widths .entry)) n ⌝ }
-{
-    let mut largest = 0;
-    let mut i = 0;
-    while i < n {
-        largest = larger(largest, end_bit(number_at(starts, i), number_at(widths, i)));
-        i += 1;
-    }
-    largest
-}
-
 // Whether the parameter at index i has no place.
 fn lacks_place(i: usize, start: u32, width: u32) -> bool
     ensures { λ r. ⌜ r ≡ lacksPlace i start width ⌝ }
@@ -106,16 +93,30 @@ fn lacks_place(i: usize, start: u32, width: u32) -> bool
     (64 <= i) | (width < 1) | (32 < width) | (14280 < end_bit(start, width))
 }
 
-// The lowest position without a place, or 0.
-pub fn unplaced(starts: &[u32], widths: &[u32]) -> u8
-    ensures { λ r. ⌜ r ≡ unplacedIn (now (starts .entry)) (now (widths .entry)) ⌝ }
+// What one walk over a map finds: the lowest position without a place, or 0, and the largest end, or 0 where a position has no place.
+pub struct Measured {
+    pub unplaced: u8,
+    pub end: u64,
+}
+
+// Measures a map: each parameter is looked at once, for its place and for its end.
+pub fn measure(starts: &[u32], widths: &[u32]) -> Measured
+    ensures { λ r. ⌜ (r .unplaced ≡ unplacedIn (now (starts .entry)) (now (widths .entry)))
+        × (r .end ≡ endPlaced (now (starts .entry)) (now (widths .entry))) ⌝ }
 {
+    let mut end = 0;
     let mut i = 0;
     while i < starts.len() {
-        if lacks_place(i, starts[i], number_at(widths, i)) {
-            return (i + 1) as u8;
+        let start = starts[i];
+        let width = number_at(widths, i);
+        if lacks_place(i, start, width) {
+            return Measured {
+                unplaced: (i + 1) as u8,
+                end: 0,
+            };
         }
+        end = larger(end, end_bit(start, width));
         i += 1;
     }
-    0
+    Measured { unplaced: 0, end }
 }

@@ -1,12 +1,12 @@
 -- The words and the bytes of a row, as the functions read and write them. Assumes nothing.
-use Prim.Native.Nat.{ℕ, _+_, _*_, _-_, _≤_, _<_}
+use Prim.Native.Nat.{ℕ, zero, suc, _+_, _*_, _-_, _≤_, _<_}
 use native.Mathlib.Nat.{zero-add}
 use native.Mathlib.Omega.{arith}
 use mathlib.Core.Path.{_≡_, refl, sym, ap, ap₂, _∙_}
 use mathlib.Core.List.{List, [], _∷_, _++_, append-assoc}
 use lib.Dec.{lit<}
-use lib.ListN.{length, take, drop, getD, set, replicate, length-append, length-take, length-drop}
-use lib.Seq.{take-all, take-take, take-append-le}
+use lib.ListN.{length, take, drop, getD, set, replicate, length-append, length-take, length-drop, drop-of-length-le}
+use lib.Seq.{take-all, take-take, take-append-le, drop-cons}
 use Rattle.words.specs.Rows.{rowAt, putAt}
 use Rattle.words.proofs.Rows.{span, part-is-row, back-is-put, length-rowAt, rowAt-getD, rowAt-head}
 use Rattle.splice.specs.Splice.{splice, covered, laid}
@@ -40,21 +40,30 @@ all-nobodys heads long = ap (λ (n : ℕ). replicate n 0) long
 
 -- ---- bytes
 
--- the seven bytes of a frame, as the part of its data that they are
-pub seven-part : (d : List ℕ) → length d ≡ 8 → take 7 (drop 1 d) ≡ sevenOf d
-seven-part d e = take-all 7 (drop 1 d) (simp length-drop (omega arith)) ∙ sym (seven-same 0 (drop 1 d) (simp length-drop (omega arith)))
+-- n bytes of a list, from byte j on
+abbrev pub gets : List ℕ → ℕ → ℕ → List ℕ
+gets l j zero = []
+gets l j (suc n) = getD l j 0 ∷ gets l (suc j) n
+
+gets-drop : (l : List ℕ) (j n : ℕ) → j + n ≡ length l → gets l j n ≡ drop j l
+gets-drop l j zero e = sym (drop-of-length-le l {i = j} (omega arith))
+gets-drop l j (suc n) e = ap (λ (x : List ℕ). getD l j 0 ∷ x) (gets-drop l (suc j) n (omega arith)) ∙ sym (drop-cons l j 0 (omega arith))
+
+-- the seven bytes of a frame, one after another
+pub seven-listed : (d : List ℕ) → length d ≡ 8 → gets d 1 7 ≡ sevenOf d
+seven-listed d e = gets-drop d 1 7 (sym e) ∙ sym (seven-same 0 (drop 1 d) (simp length-drop (omega arith)))
 
 module _ (t : List ℕ) (wide : length t ≡ 14280) (i : ℕ) (h : i < 8) where
   pub bytes-long : length (rowAt 1785 t i) ≡ 1785
   bytes-long = length-rowAt 1785 t i (omega arith)
 
   -- row i is lent as a part, seven bytes are laid into it, and it comes back
-  pub seven-laid : (at : ℕ) → at + 7 ≤ 1785 → (d : List ℕ) → length d ≡ 8 → (y : List ℕ) → y ≡ laid (take (i * 1785 + 1785 - i * 1785) (drop (i * 1785) t)) at (take 7 (drop 1 d))
+  pub seven-laid : (at : ℕ) → at + 7 ≤ 1785 → (d x : List ℕ) → x ≡ sevenOf d → (y : List ℕ) → y ≡ laid (take (i * 1785 + 1785 - i * 1785) (drop (i * 1785) t)) at x
       → take (i * 1785) t ++ (y ++ drop (i * 1785 + 1785 - i * 1785) (drop (i * 1785) t)) ≡ putAt 1785 t i (splice (rowAt 1785 t i) at (sevenOf d))
-  seven-laid at room d e y q =
+  seven-laid at room d x e y q =
       back-is-put 1785 t i y
       ∙ ap (putAt 1785 t i)
-      (q ∙ ap₂ (λ (l : List ℕ) (x : List ℕ). laid l at x) (part-is-row 1785 t i) (seven-part d e)
+      (q ∙ ap₂ (λ (l : List ℕ) (z : List ℕ). laid l at z) (part-is-row 1785 t i) e
       ∙ sym (laid-is (rowAt 1785 t i) at (sevenOf d) (omega (arith, bytes-long, seven-long 0 (drop 1 d))) .1))
 
   -- the first bytes of row i, as a part

@@ -43,10 +43,10 @@ const PGN: usize = 3;
 // The holder of a row that no pair has.
 const NOBODY: u64 = 0;
 
-// The PGNs of a request to send and of a packet.
-const REQUEST_PGN: u32 = 60416;
+// The PFs of a request to send and of a packet: their PGNs, 60416 and 60160, are 256 times these.
+const REQUEST_PF: u8 = 236;
 
-const PACKET_PGN: u32 = 60160;
+const PACKET_PF: u8 = 235;
 
 // The control byte of a request to send.
 const TO_SEND: u8 = 16;
@@ -179,9 +179,8 @@ pub fn request(heads: &mut [u64; WORDS], id: u32, len: u8, d: &[u8; 8]) -> Answe
     ensures { λ r. ⌜ outcome (inNumbers r) (now (heads .exit)) ≡ requested (now (heads .entry)) id len (now (d .entry)) ⌝ }
 {
     let f = frame::split(id);
-    let bad = message::served_fault(REQUEST_PGN, id, len, f);
-    if bad != 0 {
-        return answers::plainly(bad);
+    if message::is_refused(REQUEST_PF, id, len, f) {
+        return answers::plainly(message::served_fault(REQUEST_PF, id, len, f));
     }
     let wrong = request_fault(d);
     if wrong != 0 {
@@ -216,6 +215,22 @@ fn is_last(size: u64, n: u8) -> bool
     size <= 7 * n as u64
 }
 
+// The seven bytes of a packet, by value: laid from there they are three moves, and not one for each byte.
+fn seven_of(d: &[u8; 8]) -> [u8; 7]
+    ensures { λ r. ⌜ r ≡ sevenOf (now (d .entry)) ⌝ }
+{
+    let eight = &d[..];
+    [
+        eight[1],
+        eight[2],
+        eight[3],
+        eight[4],
+        eight[5],
+        eight[6],
+        eight[7],
+    ]
+}
+
 // Lays the seven bytes of packet n where they stand in the payload, in the bytes of row i.
 fn lay_seven(bytes: &mut [u8], i: usize, n: u8, d: &[u8; 8])
     requires { ⌜ (length (now bytes) ≡ 14280) × ((i < sessions) × (0 < n)) ⌝ }
@@ -223,8 +238,8 @@ fn lay_seven(bytes: &mut [u8], i: usize, n: u8, d: &[u8; 8])
 {
     let a = i * MOST;
     let e = a + MOST;
-    let eight = &d[..];
-    splice::copy_at(&mut bytes[a..e], 7 * (n as usize - 1), &eight[1..8]);
+    let seven = seven_of(d);
+    splice::copy_at(&mut bytes[a..e], 7 * (n as usize - 1), &seven);
 }
 
 // Hands the first bytes of row i out.
@@ -278,9 +293,8 @@ pub fn packet(
         ≡ arrived (memory (now (heads .entry)) (now (bytes .entry))) (now (out .entry)) id len (now (d .entry)) ⌝ }
 {
     let f = frame::split(id);
-    let bad = message::served_fault(PACKET_PGN, id, len, f);
-    if bad != 0 {
-        return briefly(bad);
+    if message::is_refused(PACKET_PF, id, len, f) {
+        return briefly(message::served_fault(PACKET_PF, id, len, f));
     }
     let i = row_with(heads, holder_in(f));
     if i < SESSIONS {

@@ -15,23 +15,23 @@ use Rattle.payload.proofs.pack.Tie as tie
 
 -- past the second test the lengths are right
 right : (c : tie.Else2) →
-    let a = c .before .before .before .before .before .before .before .before .args in
+    let a = c .before .before .before .before .before .before .before .before .before .args in
     (length (now (a .numbers)) ≡ length (now (a .starts))) × (c .before .map-size .result ≤ length (now (a .out)))
 right c = lengths _ _ _ _ (c .if2 .left)
 
 returns : tie.Need-returns
 unfolding packing
-returns c = simp (← c .before .unplaced .ensures, lt-ltb _ _ (c .if1 .taken))
+returns c = simp (← c .before .before .measure .ensures .0, lt-ltb _ _ (c .if1 .taken))
 
 returns-2 : tie.Need-returns-2
 unfolding packing
 returns-2 c =
     let m = c .before in
-    simp (← m .before .before .unplaced .ensures, le-ltb _ _ (m .before .if1 .left), ← m .map-size .ensures .0, c .if2 .taken)
+    simp (← m .before .before .before .measure .ensures .0, le-ltb _ _ (m .before .if1 .left), ← m .map-size .ensures .0, c .if2 .taken)
 
 too-wide-requires : tie.Need-too-wide-requires
 too-wide-requires c κs =
-    let a = c .before .before .before .before .before .before .before .before .args in
+    let a = c .before .before .before .before .before .before .before .before .before .args in
     omega (arith, right c, placed-widths (now (a .starts)) (now (a .widths)) (omega arith), placed-count (now (a .starts)) (now (a .widths)) (omega arith))
 
 returns-3 : tie.Need-returns-3
@@ -40,7 +40,7 @@ returns-3 c =
     let d = c .before .before in
     let m = d .before in
     simp (
-      ← m .before .before .unplaced .ensures,
+      ← m .before .before .before .measure .ensures .0,
       le-ltb _ _ (m .before .if1 .left),
       ← m .map-size .ensures .0,
       d .if2 .left,
@@ -66,7 +66,7 @@ returns-4 c =
     let d = e .before .before in
     let m = d .before in
     simp (
-      ← m .before .before .unplaced .ensures,
+      ← m .before .before .before .measure .ensures .0,
       le-ltb _ _ (m .before .if1 .left),
       ← m .map-size .ensures .0,
       d .if2 .left,

@@ -15,19 +15,19 @@ use Rattle.payload.proofs.read.Tie as tie
 
 -- past the second test the lengths are right
 right : (c : tie.Else2) →
-    let a = c .before .before .before .before .before .before .before .before .args in
+    let a = c .before .before .before .before .before .before .before .before .before .args in
     (length (now (a .payload)) ≡ c .before .map-size .result) × (length (now (a .starts)) ≤ length (now (a .room)))
 right c = lengths _ _ _ _ (c .if2 .left)
 
 returns : tie.Need-returns
 unfolding reading
-returns c = simp (← c .before .unplaced .ensures, lt-ltb _ _ (c .if1 .taken))
+returns c = simp (← c .before .before .measure .ensures .0, lt-ltb _ _ (c .if1 .taken))
 
 returns-2 : tie.Need-returns-2
 unfolding reading
 returns-2 c =
     let m = c .before in
-    simp (← m .before .before .unplaced .ensures, le-ltb _ _ (m .before .if1 .left), ← m .map-size .ensures .0, c .if2 .taken)
+    simp (← m .before .before .before .measure .ensures .0, le-ltb _ _ (m .before .if1 .left), ← m .map-size .ensures .0, c .if2 .taken)
 
 slice-relend-prefix-read-into : tie.Need-slice-relend-prefix-read-into
 slice-relend-prefix-read-into c = right c .1
@@ -42,7 +42,7 @@ read-into-requires c κs =
 
 cast-count : tie.Need-cast-count
 cast-count c =
-    let a = c .before .before .before .before .before .before .before .before .before .before .before .before .args in
+    let a = c .before .before .before .before .before .before .before .before .before .before .before .before .before .args in
     omega (arith, placed-count (now (a .starts)) (now (a .widths)) (omega arith))
 
 returns-3 : tie.Need-returns-3
@@ -50,7 +50,7 @@ unfolding reading
 returns-3 c =
     let d = c .before .before .before .before in
     let m = d .before in
-    simp (← m .before .before .unplaced .ensures, le-ltb _ _ (m .before .if1 .left), ← m .map-size .ensures .0, d .if2 .left, ← c .before .before .read-into .ensures)
+    simp (← m .before .before .before .measure .ensures .0, le-ltb _ _ (m .before .if1 .left), ← m .map-size .ensures .0, d .if2 .left, ← c .before .before .read-into .ensures)
 
 pub read-spec : {M : Type 1} → statement M
 read-spec =
