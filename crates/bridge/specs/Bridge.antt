@@ -2,10 +2,12 @@
 -- Assumes nothing.
 use mathlib.Core.Bool.{Bool, true, false, _&&_, cond}
 use mathlib.Core.List.{List}
-use Prim.Native.Nat.{ℕ, _-_}
+use Prim.Native.Nat.{ℕ, _+_, _*_, _-_}
 use lib.Dec.{eqb, leb}
 use lib.ListN.{replicate}
+use Rattle.words.specs.Rows.{rowAt}
 use Rattle.answers.specs.Answers.{Said, inNumbers, plain, done}
+use Rattle.pairs.specs.Row.{width, rowPasses}
 use Rattle.ports.specs.Filters.{twoPorts, pairOf, decided}
 use Rattle.counters.specs.declared.Counters.{Counters}
 use Rattle.counters.specs.declared.Fate.{Fate}
@@ -42,6 +44,14 @@ secondOther p = cond (leb p 2) 3 2
 abbrev pub thirdOther : ℕ → ℕ
 thirdOther p = cond (leb p 3) 4 3
 
+-- the number of the pair from a port to its k-th other, counted from 0: the three pairs from a port follow each other
+abbrev pub pairFrom : ℕ → ℕ → ℕ
+pairFrom from k = (from - 1) * 3 + k
+
+-- whether the filter of that pair lets a PGN pass
+abbrev pub passesFrom : List ℕ → ℕ → ℕ → ℕ → Bool
+passesFrom w from k g = rowPasses (rowAt width w (pairFrom from k)) g
+
 -- "1 (refused)", "26 (turned away)"; the filter's answer 0 with detail 0 is "filtered", and 0 with detail 1 says of one that is offered that it is queued, of a slot that one is sent
 unfoldable pub answerTo : Fate → Said
 answerTo Refused = plain 1
@@ -64,6 +74,10 @@ met f q = record { fate = f; queues = q }
 unfoldable pub metBy : Said → Entered → List ℕ → Met
 metBy d e q = cond (eqb (d .number) 0) (cond (eqb (d .detail) 0) (met Filtered q) (met (cond (e .fits) Queued Turned) (e .words))) (met Refused q)
 
+-- the same of a frame whose identifier is one, by whether its pair lets it pass
+unfoldable pub passedBy : Bool → Entered → List ℕ → Met
+passedBy b e q = cond b (met (cond (e .fits) Queued Turned) (e .words)) (met Filtered q)
+
 -- what becomes of it, and all the words afterwards
 pub record Replied : Type 0 where
   pub fate : Fate
@@ -80,6 +94,10 @@ unfoldable pub offeredTo : Bridge → List ℕ → ℕ → ℕ → ℕ → Repli
 offeredTo b w from to id = countedAs b (pairOf from to) (metBy (decided w from to id) (entersAt (b .queues) (to - 1) (wordOf from id)) (b .queues))
 
 -- ---- a frame at the three other ports
+
+-- the counters after it was refused at each
+abbrev pub refusedFrom : List ℕ → ℕ → List ℕ
+refusedFrom c from = notedAt (notedAt (notedAt c (pairFrom from 0) Refused) (pairFrom from 1) Refused) (pairFrom from 2) Refused
 
 -- what becomes of it, and the words afterwards
 pub record Offers : Type 0 where

@@ -2,11 +2,12 @@
 // a port. The counters of the twelve pairs and the queues of the four ports lie in words that the caller lends, beside the filters of the room `ports`
 // (specs/Bridge.antt). Whatever these words hold, each call has its defined answer.
 ghost use mathlib.Core.Path.{_≡_};
-ghost use Prim.Native.Nat.{_-_, _≤_};
+ghost use Prim.Native.Nat.{_≤_, _<_};
+ghost use lib.ListN.{length};
 ghost use Rattle.answers.specs.Answers.{inNumbers};
-ghost use Rattle.ports.specs.Filters.{decided};
-ghost use Rattle.queue.specs.Row.{wordOf, entersAt};
-ghost use Rattle.bridge.specs.Bridge.{bridge, freshBridge, isPort, firstOther, secondOther, thirdOther, met, metBy, answerTo, replied, offeredTo, offers, offered, slottedAs, slotted, standingAs, standing};
+ghost use Rattle.counters.specs.Words.{notedAt};
+ghost use Rattle.queue.specs.Row.{entersAt};
+ghost use Rattle.bridge.specs.Bridge.{bridge, freshBridge, isPort, firstOther, secondOther, thirdOther, pairFrom, passesFrom, passedBy, answerTo, replied, countedAs, refusedFrom, offers, offered, slottedAs, slotted, standingAs, standing};
 use answers::Answer;
 use counters::Counters;
 use counters::Fate;
@@ -16,6 +17,12 @@ pub const COUNTERS: usize = 72;
 
 // The words of the queues, 65 for each of four ports.
 pub const QUEUES: usize = 260;
+
+// The words of the counters of the three pairs from a port.
+const COUNTERS_FROM: usize = 18;
+
+// The words of their filters.
+const FILTERS_FROM: usize = 102;
 
 // What becomes of a frame that came in at a port: at each of the three other ports, rising; or that it was no port, which is answered 15.
 pub enum Offered {
@@ -71,44 +78,68 @@ pub fn answer_to(fate: Fate) -> Answer
 
 // ---- a frame
 
-// What becomes of a frame at a port that it is offered to: refused, then filtered, then queued where fewer than 64 wait there, else turned away.
-fn meet(q: &mut [u64; QUEUES], w: &[u32; ports::WORDS], from: u8, to: u8, id: u32) -> Fate
-    requires { ⌜ 1 ≤ to ⌝ }
-    ensures { λ r. ⌜ met r (now (q .exit))
-        ≡ metBy (decided (now (w .entry)) from to id) (entersAt (now (q .entry)) (to - 1) (wordOf from id)) (now (q .entry)) ⌝ }
+// Whether the filter of the pair from a port to its k-th other, counted from 0, lets a PGN pass. The three pairs from a port follow each other, and their words are lent as a part, so that the
+// compiler finds all three rows from one address.
+fn lets_pass(w: &[u32], from: u8, k: usize, pgn: u32) -> bool
+    requires { ⌜ (length (now w) ≡ 408) × ((1 ≤ from) × ((from ≤ 4) × (k < 3))) ⌝ }
+    ensures { λ r. ⌜ r ≡ passesFrom (now (w .entry)) from k pgn ⌝ }
 {
-    let a = ports::decide(w, from, to, id);
-    if a.number != 0 {
-        return Fate::Refused;
-    }
-    if a.detail == 0 {
-        return Fate::Filtered;
-    }
-    if queue::enter(q, to as usize - 1, queue::word_of(from, id)) {
-        return Fate::Queued;
-    }
-    Fate::Turned
+    let i = from as usize - 1;
+    let a = i * FILTERS_FROM;
+    let e = a + FILTERS_FROM;
+    pairs::lets_pass(&w[a..e], k, pgn)
 }
 
-// Offers a frame to one port, and counts what becomes of it at the pair.
+// Counts what became of a frame at that pair, in the same way.
+fn note(c: &mut [u64], from: u8, k: usize, fate: Fate)
+    requires { ⌜ (length (now c) ≡ 72) × ((1 ≤ from) × ((from ≤ 4) × (k < 3))) ⌝ }
+    ensures { λ _. ⌜ now (c .exit) ≡ notedAt (now (c .entry)) (pairFrom from k) fate ⌝ }
+{
+    let i = from as usize - 1;
+    let a = i * COUNTERS_FROM;
+    let e = a + COUNTERS_FROM;
+    counters::note(&mut c[a..e], k, fate);
+}
+
+// Offers a frame to a port's k-th other, whose queue has the number `port`, and counts what becomes of it: it is filtered, then queued where fewer than 64 wait there, else turned away.
 fn offer_to(
     c: &mut [u64; COUNTERS],
     q: &mut [u64; QUEUES],
     w: &[u32; ports::WORDS],
     from: u8,
-    to: u8,
-    id: u32,
+    k: usize,
+    port: usize,
+    pgn: u32,
+    word: u64,
 ) -> Fate
-    requires { ⌜ 1 ≤ to ⌝ }
+    requires { ⌜ (1 ≤ from) × ((from ≤ 4) × (k < 3)) ⌝ }
     ensures { λ r. ⌜ replied r (bridge (now (c .exit)) (now (q .exit)))
-        ≡ offeredTo (bridge (now (c .entry)) (now (q .entry))) (now (w .entry)) from to id ⌝ }
+        ≡ countedAs (bridge (now (c .entry)) (now (q .entry))) (pairFrom from k)
+        (passedBy (passesFrom (now (w .entry)) from k pgn) (entersAt (now (q .entry)) port word) (now (q .entry))) ⌝ }
 {
-    let fate = meet(q, w, from, to, id);
-    counters::note(c, ports::pair_of(from, to), fate);
-    fate
+    if lets_pass(w, from, k, pgn) {
+        if queue::enter(q, port, word) {
+            note(c, from, k, Fate::Queued);
+            return Fate::Queued;
+        }
+        note(c, from, k, Fate::Turned);
+        return Fate::Turned;
+    }
+    note(c, from, k, Fate::Filtered);
+    Fate::Filtered
 }
 
-// Takes a frame that came in at a port: it is offered to the three other ports, rising.
+// Refuses a frame at the three other ports, which is counted and nothing more.
+fn refuse(c: &mut [u64], from: u8)
+    requires { ⌜ (length (now c) ≡ 72) × ((1 ≤ from) × (from ≤ 4)) ⌝ }
+    ensures { λ _. ⌜ now (c .exit) ≡ refusedFrom (now (c .entry)) from ⌝ }
+{
+    note(c, from, 0, Fate::Refused);
+    note(c, from, 1, Fate::Refused);
+    note(c, from, 2, Fate::Refused);
+}
+
+// Takes a frame that came in at a port: it is offered to the three other ports, rising. Its identifier is tested and its PGN found once for all three.
 pub fn offer(
     c: &mut [u64; COUNTERS],
     q: &mut [u64; QUEUES],
@@ -120,9 +151,15 @@ pub fn offer(
         ≡ offered (bridge (now (c .entry)) (now (q .entry))) (now (w .entry)) from id ⌝ }
 {
     if is_port(from) {
-        let first = offer_to(c, q, w, from, first_other(from), id);
-        let second = offer_to(c, q, w, from, second_other(from), id);
-        let third = offer_to(c, q, w, from, third_other(from), id);
+        if frame::GREATEST < id {
+            refuse(c, from);
+            return Offered::To(Fate::Refused, Fate::Refused, Fate::Refused);
+        }
+        let pgn = frame::pgn(frame::split(id));
+        let word = queue::word_of(from, id);
+        let first = offer_to(c, q, w, from, 0, first_other(from) as usize - 1, pgn, word);
+        let second = offer_to(c, q, w, from, 1, second_other(from) as usize - 1, pgn, word);
+        let third = offer_to(c, q, w, from, 2, third_other(from) as usize - 1, pgn, word);
         return Offered::To(first, second, third);
     }
     Offered::NoPort

@@ -1,6 +1,6 @@
 -- After ANY run of calls from fresh counters and queues, with any filters and any numbers: each counter is the number that the trace defines, each port's words hold the frames that wait there, and each call is
 -- answered by them. Assumes nothing.
-use Prim.Native.Nat.{ℕ, zero, suc, _+_, _-_, _^_, _≤_, _<_}
+use Prim.Native.Nat.{ℕ, suc, _+_, _-_, _^_, _≤_, _<_}
 use native.Mathlib.Omega.{arith}
 use mathlib.Core.Path.{_≡_, refl, sym, ap, ap₂, subst, _∙_}
 use mathlib.Core.Bool.{Bool, true, false, cond}
@@ -26,7 +26,7 @@ use Rattle.queue.specs.Row.{wordOf, howMany, Entered, entersAt, leavesAt}
 use Rattle.queue.proofs.Rows.{waiting-most}
 use Rattle.bridge.specs.Bridge.{Bridge, bridge, freshBridge, isPort, firstOther, secondOther, thirdOther, answerTo, Met, met, metBy, Replied, replied, countedAs, offeredTo, Offers, offers, lastOffer, thenThird, thenSecond, offered, Slotted, slottedAs, sentFrom, slotted, Stands, stands, standing}
 use Rattle.bridge.specs.declared.Offered.the-variants.{To, NoPort}
-use Rattle.bridge.proofs.Calls.{port-is}
+use Rattle.bridge.proofs.Calls.{each-port}
 use Rattle.traffic.specs.Traffic.{Verdict, Refuses, Blocks, Passes, Event, Offer, Slot, Frame, priorityOf, fateOf, waits, cameFrom, manyFrom, waiting, countersOf}
 use Rattle.traffic.specs.Runs.{Call, Arrives, Leaves, Order, State, state, afterCall, run, verdictOf, filtersBy, offerTo, heard, happened, metAs, wordsAfter, wordsBy, Real, AllReal, becomes, slotSaid}
 use Rattle.traffic.proofs.Sums.{counters-by}
@@ -34,18 +34,6 @@ use Rattle.traffic.proofs.Frames.{wordFor, Sound, from-back, id-back, A
 use Rattle.traffic.proofs.Words.{Says, row-below, port-to, other-waits, fate-by, gone-none, gone-some, who-leaves, one-more, words-say}
 
 -- ---- ports
-
--- what holds of 1, 2, 3 and 4 holds of every port
-each-port : (P : ℕ → Type 0) → P 1 → P 2 → P 3 → P 4 → (p : ℕ) → isPort p ≡ true → P p
-each-port P a b c d p y = go p (port-is p y .0) (port-is p y .1)
-  where
-    go : (p : ℕ) → 1 ≤ p → p ≤ 4 → P p
-    go zero h l = absurd (omega (arith, h))
-    go (suc zero) h l = a
-    go (suc (suc zero)) h l = b
-    go (suc (suc (suc zero))) h l = c
-    go (suc (suc (suc (suc zero)))) h l = d
-    go (suc (suc (suc (suc (suc p))))) h l = absurd (omega (arith, l))
 
 -- the three others make three pairs with it, and no two of them are one
 pub record Others (p : ℕ) : Type 0 where

@@ -1,15 +1,36 @@
--- `bridge::offer_to` meets its contract: what became of the frame, counted at its pair. Assumes nothing.
+-- `bridge::offer_to` meets its contract: what the filter says, then what the queue says, counted at the pair. Assumes nothing.
+use mathlib.Core.Path.{sym, _∙_}
 use Rattle.bridge.specs.Bridge.{bridge}
-use Rattle.bridge.proofs.Calls.{offer-is}
+use Rattle.bridge.proofs.Calls.{is-filtered, is-queued, is-turned, counted-is}
 use borrow.Author.Needs.{needs}
 use Rattle.bridge.proofs.offer_to.Statement.{statement}
 use Rattle.bridge.proofs.offer_to.Tie as tie
 
 returns : tie.Need-returns
 returns c =
-    let m = c .before .before .before in
-    let a = m .before .before .args in
-    offer-is (bridge (a .c .now) (a .q .now)) (a .w .now) (a .from) (a .to) (a .id) _ _ _ _ (m .meet .ensures) (c .before .pair-of .ensures) (c .note .ensures)
+    let f = c .before .before in
+    let l = f .before .before .before in
+    let a = l .before .before .before .args in
+    counted-is (bridge (a .c .now) (a .q .now)) _ _ _ _ _
+    (is-queued _ _ _ (sym (l .before .lets-pass .ensures) ∙ l .if1 .taken) _ _ (f .if2 .taken) (f .before .enter .ensures))
+    (c .note .ensures)
+
+returns-2 : tie.Need-returns-2
+returns-2 c =
+    let f = c .before .before in
+    let l = f .before .before .before in
+    let a = l .before .before .before .args in
+    counted-is (bridge (a .c .now) (a .q .now)) _ _ _ _ _
+    (is-turned _ _ _ (sym (l .before .lets-pass .ensures) ∙ l .if1 .taken) _ _ (f .if2 .left) (f .before .enter .ensures))
+    (c .note2 .ensures)
+
+returns-3 : tie.Need-returns-3
+returns-3 c =
+    let l = c .before .before in
+    let a = l .before .before .before .args in
+    counted-is (bridge (a .c .now) (a .q .now)) _ _ _ _ _ (is-filtered _ _ _ (sym (l .before .lets-pass .ensures) ∙ l .if1 .left)) (c .note3 .ensures)
 
 pub offer-to-spec : {M : Type 1} → statement M
-offer-to-spec = tie.close (tie.spec (λ c κs. search needs) (λ c κs. search needs) (λ c κs. search needs) returns)
+offer-to-spec =
+    tie.close
+    (tie.spec (λ c κs. search needs) (λ c κs. search needs) (λ c κs. search needs) returns (λ c κs. search needs) returns-2 (λ c κs. search needs) returns-3)

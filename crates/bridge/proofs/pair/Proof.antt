@@ -11,7 +11,7 @@ sub-waiting-from : tie.Need-sub-waiting-from
 sub-waiting-from c =
     let p = c .before .before .before .before in
     let a = p .before .args in
-    omega (arith, two (a .from) (a .to) (pair-two (bridge (a .c .now) (a .q .now)) (a .from) (a .to) _ (p .pair-of .ensures) (c .before .if1 .taken)) .to-least)
+    omega (arith, two (a .from) (a .to) (pair-two (a .from) (a .to) _ (p .pair-of .ensures) (c .before .if1 .taken)) .to-least)
 
 returns : tie.Need-returns
 returns c =
