@@ -37,6 +37,7 @@
 #define FIRST_odd 11
 #define FIRST_2010 1     /* these in `edition_box`: the same maps twice, of SPNs that both editions have, by the one edition and by the other */
 #define FIRST_2004 6
+#define FIRST_narrow 6   /* these, of 30 parameters in 8 bytes, and those of 8 in `hire_box` */
 
 struct frame {
     uint32_t identifier;
@@ -72,6 +73,10 @@ static yendrolf_bridge day;
 static yendrolf_box day_box, listed_box;  /* with fresh filters, and with 32 PGNs in each pair's list */
 static uint64_t frames_waiting[FRAMES];   /* words of frames that wait, of any priority and from any port */
 static uint8_t trace_records[RECORDS * YENDROLF_EVENT_BYTES];
+static yendrolf_box hire_box;
+static yendrolf_hire hire;
+static struct map maps_narrow[MAPS];
+static uint8_t other_records[RECORDS * 13], paid_8[RECORDS * 13], paid_30[RECORDS * 13];   /* logs: records of other PGNs alone, and payloads of the maps of 8 and of 30 in turn */
 
 /* What pack and read find, the same for each run; 1 fits every width. */
 static void fill(void)
@@ -171,6 +176,12 @@ static const struct test {
     { "renew", 1600000, BUILT(renew) },
     { "feed, a record", 1000000, BUILT(feed) },
     { "finish, 16 keys", 800, BUILT(finish) },
+    { "feed a hire, a record of another PGN", 1000000, BUILT(hire_others) },
+    { "feed, a record of another PGN", 1000000, BUILT(feed_others) },
+    { "feed a hire, a record of that log", 1000000, BUILT(hire_log) },
+    { "feed a hire, a payload of 8", 200000, BUILT(hire_8) },
+    { "feed a hire, a payload of 30", 50000, BUILT(hire_30) },
+    { "line of a hire, of 8", 20000, BUILT(line) },
     { "save, 10 usable keys of 16", 800, BUILT(save) },
     { "load, 10 keys", 800, BUILT(load) },
     { "load, 10 keys, as Req 01 saved them", 800, BUILT(load_1) },
@@ -315,6 +326,20 @@ static void draw_odd(struct map *m)
     m->bytes = 8;
 }
 
+/* A map of 30 different SPNs of two bits at most, in 8 bytes. */
+static void draw_narrow(struct map *m)
+{
+    unsigned char taken[ENTRIES] = { 0 };
+    unsigned at = 0;
+    m->n = 0;
+    while (m->n < 30) {
+        unsigned row = free_row(taken, 1, 2);
+        put_row(m, row, at);
+        at += dictionary[row].width;
+    }
+    m->bytes = 8;
+}
+
 static void fail(const char *what)
 {
     printf("%s\n", what);
@@ -412,6 +437,16 @@ static void make_form_1(void)
         fail("an image of form 1 is not loaded");
 }
 
+/* A frame as record i of a log. */
+static void put_record(uint8_t *log, unsigned i, uint32_t id, const uint8_t *data)
+{
+    uint8_t *r = log + 13 * i;
+    for (unsigned j = 0; j < 4; j++)
+        r[j] = (uint8_t)(id >> 8 * j);
+    r[4] = 8;
+    memcpy(r + 5, data, 8);
+}
+
 /* All maps of one kind are usable. */
 static void see_usable(const yendrolf_box *b, uint8_t first, const struct map *m)
 {
@@ -455,6 +490,39 @@ static void prepare_day(void)
     yendrolf_start_bridge(&day);
     if (yendrolf_offer(&day, &day_box, 1, other_ids[0]).to[0].detail != YENDROLF_PASS)
         fail("a frame was not queued");
+}
+
+/* A key of `hire_box` with this map, from frames. */
+static void teach_hire(const struct map *m, uint8_t k)
+{
+    for (unsigned p = 1; p <= m->n; p++) {
+        struct frame f = message(38, k, m->n, p, m->spns[p - 1], m->starts[p - 1], 0);
+        yendrolf_learn(&hire_box, f.identifier, 8, f.data);
+    }
+}
+
+/* Ten keys with maps of 8 bytes, and the logs. Of a payload's bytes one in four says that a number is no reading. */
+static void prepare_hire(void)
+{
+    yendrolf_start(&hire_box);
+    for (uint8_t i = 0; i < MAPS; i++) {
+        draw_narrow(&maps_narrow[i]);
+        teach_hire(&maps_8[i], (uint8_t)(FIRST_8 + i));
+        teach_hire(&maps_narrow[i], (uint8_t)(FIRST_narrow + i));
+    }
+    see_usable(&hire_box, FIRST_8, maps_8);
+    see_usable(&hire_box, FIRST_narrow, maps_narrow);
+    for (unsigned i = 0; i < RECORDS; i++) {
+        uint8_t data[8];
+        for (unsigned j = 0; j < 8; j++)
+            data[j] = (uint8_t)(any() % 4 ? any() % 251 : 251 + any() % 5);
+        uint32_t id = other_ids[any() % FRAMES];
+        while ((id & 0x03f00000) == 0x00b00000)
+            id = other_ids[any() % FRAMES];
+        put_record(other_records, i, id, data);
+        put_record(paid_8, i, 0x18b02726u | (uint32_t)(FIRST_8 + i % MAPS) << 16, data);
+        put_record(paid_30, i, 0x18b02726u | (uint32_t)(FIRST_narrow + i % MAPS) << 16, data);
+    }
 }
 
 static void prepare(void)
@@ -516,11 +584,7 @@ static void prepare(void)
     for (unsigned i = 0; i < RECORDS; i++) {   /* a log: nine of ten frames are of another PGN */
         struct frame f = frames[any() % FRAMES];
         uint32_t id = any() % 10 ? other_ids[any() % FRAMES] : f.identifier;
-        uint8_t *r = records + 13 * i;
-        for (unsigned j = 0; j < 4; j++)
-            r[j] = (uint8_t)(id >> 8 * j);
-        r[4] = 8;
-        memcpy(r + 5, f.data, 8);
+        put_record(records, i, id, f.data);
     }
     for (unsigned i = 0; i < FRAMES; i++) {   /* what meaning and scaled are asked: any row, and any number of its width */
         unsigned row = any() % ENTRIES;
@@ -538,6 +602,7 @@ static void prepare(void)
             packets[i][j] = (uint8_t)any();
     }
     prepare_day();
+    prepare_hire();
     start_talk();
     if (yendrolf_packet(&talk, 0x1ceb2707u, 8, packets[1], payload).told.number != 0)
         fail("a packet was refused");
@@ -602,8 +667,8 @@ int main(int argc, char **argv)
     for (size_t t = 0; t < sizeof tests / sizeof tests[0]; t++)
         measure(&tests[t], part ? part : 1);
     printf("\n%s. Processor time, medians of %d runs that take turns, in one process. The %llu SPNs were drawn evenly from the dictionary's %zu rows\n"
-        "(mean row %.0f), but for those of the maps with odd widths and of both editions. State: %zu bytes (table %zu, filters %zu), %zu of sessions and %zu of a bridge, the same for all.\n",
+        "(mean row %.0f), but for those of the maps with odd widths and of both editions. State: %zu bytes (table %zu, filters %zu), %zu of sessions, %zu of a hire and %zu of a bridge, the same for all.\n",
         argc > 1 ? argv[1] : "", RUNS, (unsigned long long)rows_drawn, ENTRIES, (double)rows_sum / (double)rows_drawn, sizeof(yendrolf_box), sizeof box.table,
-        sizeof box.filters, sizeof talk, sizeof day);
+        sizeof box.filters, sizeof talk, sizeof hire, sizeof day);
     return 0;
 }

@@ -204,6 +204,58 @@ MEASURED uint64_t TEST(finish)(uint64_t n)
     return sum;
 }
 
+/* A log fed to a hire, or to the listing where `hired` is 0: so many records and more, 5,000 of them in a chunk. Other cells than the first of each position are looked at too. */
+MEASURED uint64_t TEST(fed)(uint64_t n, yendrolf_box *b, const uint8_t *log_records, int hired)
+{
+    yendrolf_log log = CALL(start_log)();
+    uint64_t sum = 0;
+    CALL(hire_fresh)(hire.cells);
+    for (uint64_t done = 0; done < n; done += RECORDS)
+        log = hired ? CALL(hire_feed)(b->table, hire.cells, YENDROLF_HIRE_LIMIT, log, log_records, RECORDS * 13) : CALL(table_feed)(b->table, log, log_records, RECORDS * 13);
+    for (unsigned i = 0; i < YENDROLF_CELL_WORDS; i++)
+        sum = sum * 31 + hire.cells[i];
+    return sum + log.records + log.refused + log.other;
+}
+
+MEASURED uint64_t TEST(hire_others)(uint64_t n)
+{
+    return TEST(fed)(n, &hire_box, other_records, 1);
+}
+
+MEASURED uint64_t TEST(feed_others)(uint64_t n)
+{
+    return TEST(fed)(n, &hire_box, other_records, 0);
+}
+
+/* The log of "feed": nine of ten frames are of another PGN, and the tenth is a message. */
+MEASURED uint64_t TEST(hire_log)(uint64_t n)
+{
+    CALL(table_empty)(other_box.table);
+    return TEST(fed)(n, &other_box, records, 1);
+}
+
+MEASURED uint64_t TEST(hire_8)(uint64_t n)
+{
+    return TEST(fed)(n, &hire_box, paid_8, 1);
+}
+
+MEASURED uint64_t TEST(hire_30)(uint64_t n)
+{
+    return TEST(fed)(n, &hire_box, paid_30, 1);
+}
+
+/* Positions 1 to 8 in turn, of a hire of which nothing was read. */
+MEASURED uint64_t TEST(line)(uint64_t n)
+{
+    uint64_t sum = 0;
+    CALL(hire_fresh)(hire.cells);
+    for (uint64_t i = 0; i < n; i++) {
+        yendrolf_line got = CALL(hire_line)(hire_box.table, hire.cells, YENDROLF_HIRE_LIMIT, 38, 39, (uint8_t)(FIRST_8 + i % MAPS), (uint8_t)(1 + i % 8));
+        sum += got.told.number + got.spn + got.read + got.sum;
+    }
+    return sum;
+}
+
 /* The image of a table of 16 keys, 10 of them usable. */
 MEASURED uint64_t TEST(save)(uint64_t n)
 {

@@ -50,5 +50,8 @@ yendrolf_pair FAST(bridge_pair)(const uint64_t *counters, const uint64_t *queues
 yendrolf_trace FAST(start_trace)(void);
 yendrolf_trace FAST(bridge_feed)(uint64_t *counters, uint64_t *queues, uint32_t *filters, yendrolf_trace trace, const uint8_t *chunk, size_t size);
 yendrolf_told FAST(bridge_finish)(const uint64_t *counters, const uint64_t *queues, yendrolf_trace trace, uint8_t *text, size_t room);
+void FAST(hire_fresh)(uint64_t *cells);
+yendrolf_log FAST(hire_feed)(uint64_t *table, uint64_t *cells, uint32_t limit, yendrolf_log log, const uint8_t *chunk, size_t size);
+yendrolf_line FAST(hire_line)(const uint64_t *table, const uint64_t *cells, uint32_t limit, uint8_t source, uint8_t destination, uint8_t k, uint8_t position);
 
 #endif

@@ -1,7 +1,7 @@
 /* The box for C: learning Configuration Identification Messages, judging maps by either edition of the dictionary, packing and reading payloads, what a number means, the answer
- * to a Parameter Locate, the listing of a log, an image of what the box learned, long messages put together from their packets, the filter of a bridge of four ports, and the bridge
- * itself with what waits and what is counted at it. examples/hitch.c has the calls at work, examples/long.c those on long messages, examples/bridge.c those on a bridge;
- * examples/socketcan.c is a loop on Linux' CAN sockets.
+ * to a Parameter Locate, the listing of a log, the report of a hire, an image of what the box learned, long messages put together from their packets, the filter of a bridge of four
+ * ports, and the bridge itself with what waits and what is counted at it. examples/hitch.c has the calls at work, examples/long.c those on long messages, examples/hire.c those on a
+ * hire, examples/bridge.c those on a bridge; examples/socketcan.c is a loop on Linux' CAN sockets.
  *
  * Link with the archive that `rt staticlib firmware` writes (target/staticlib/libfirmware.a). Every function of it is proved against its contract
  * (crates/firmware); this header is not: tests/header and tests/compare/run compare it with the archive.
@@ -9,17 +9,19 @@
  * What it needs:
  * - x86-64 Linux, no other machine, and a compiler of C99 or C++11 or later.
  * - memcpy and memset, which the archive's code calls and which C's library has. It calls nobody else, allocates nothing and keeps nothing between calls.
- * - Stack below the caller's own, in bytes: load, image_body and image_row 14,200; finish 3,200; locate, save, image_size and replayed 2,800; judge, pack, read and find 2,500; parameter_at,
- *   meaning and scaled 1,700; replay 700; every other call 400. It is a bound from the archive's code (tests/stack), with 120 for the header's own function where the compiler does not inline it; what
- *   memcpy and memset take is not in it.
+ * - Stack below the caller's own, in bytes: load, image_body and image_row 14,400; feed_hire 5,200; finish 3,400; locate and save 3,000; judge, pack, read, find, image_size, line_at and
+ *   replayed 2,800; parameter_at, meaning and scaled 1,700; replay 700; every other call 400. It is a bound from the archive's code (tests/stack), with 120 for the header's own function
+ *   where the compiler does not inline it; what memcpy and memset take is not in it.
  *
  * How to call it:
  * - Lend one yendrolf_box, which may stand anywhere that is aligned to 8. C aligns a variable by itself; a place inside other bytes is yours to align.
- *   The calls on long messages are lent a yendrolf_sessions in the same way, and no box; those on a bridge a yendrolf_bridge, beside the box whose filters they go by.
- * - Start with yendrolf_start, sessions with yendrolf_start_sessions, and a bridge with yendrolf_start_bridge. From then on change them by these calls alone. (Any other words in them are answered too, and nothing traps.)
+ *   The calls on long messages are lent a yendrolf_sessions in the same way, and no box; those on a hire a yendrolf_hire, beside the box that learns from its log; those on a bridge a
+ *   yendrolf_bridge, beside the box whose filters they go by.
+ * - Start with yendrolf_start, sessions with yendrolf_start_sessions, a hire with yendrolf_start_hire, and a bridge with yendrolf_start_bridge. From then on change them by these calls
+ *   alone. (Any other words in them are answered too, and nothing traps.)
  * - No pointer may be null, and what a call may write must not overlap with anything else that is lent to the same call. A `data` has 8 bytes, and the `payload` of
  *   yendrolf_packet has 1,785, however long the message is.
- * - One call at a time on one box, on one yendrolf_sessions and on one yendrolf_bridge. Two boxes do not know of each other.
+ * - One call at a time on one box, on one yendrolf_sessions, on one yendrolf_hire and on one yendrolf_bridge. Two boxes do not know of each other.
  * - A number is what its type can hold: C makes 1 of a port 257 before the library sees it. (-Wconversion tells.)
  * - The words of a box are the machine's own, so a box is no file format. An image is (docs/IMAGE.md): keep that across power cycles, and load it into the next box.
  * - An identifier is the 29 bits and nothing else. SocketCAN has flags above them: give `can_id & CAN_EFF_MASK`, and give only frames with CAN_EFF_FLAG and
@@ -80,6 +82,7 @@ enum yendrolf_answer {
     YENDROLF_NOT_IN_IMAGE = 22,         /* key or row not in the image */
     YENDROLF_NOT_EMPTY = 23,            /* the table to load into holds a key */
     YENDROLF_BAD_COMMAND = 24,          /* of locate, a command byte that is not 0; of request, a control byte that is not 16 */
+    YENDROLF_TOO_MANY = 25,             /* more payloads of the key were read than the limit */
     YENDROLF_TURNED_AWAY = 26,          /* the filter passes the frame, and 64 wait at the port */
     YENDROLF_BAD_EDITION = 27,          /* an edition that is not 2004 or 2010 */
     YENDROLF_NO_SESSION = 28,           /* a packet of a pair, source and destination, that has no session */
@@ -166,7 +169,9 @@ enum yendrolf_size {
     YENDROLF_BRIDGE_BYTES = 2656,       /* bytes of a yendrolf_bridge */
     YENDROLF_EVENT_BYTES = 14,          /* bytes of a trace's record */
     YENDROLF_REPLAY_BYTES = 2304,       /* enough for the lines of any replay */
-    YENDROLF_STACK_BYTES = 14200        /* stack of any call at most */
+    YENDROLF_CELL_WORDS = 8192,         /* words of what is counted of a hire */
+    YENDROLF_HIRE_BYTES = 65536,        /* bytes of a yendrolf_hire */
+    YENDROLF_STACK_BYTES = 14400        /* stack of any call at most */
 };
 
 /* All that a box holds. */
@@ -186,6 +191,14 @@ typedef struct {
     uint64_t counters[YENDROLF_COUNTER_WORDS];
     uint64_t queues[YENDROLF_QUEUE_WORDS];
 } yendrolf_bridge;
+
+/* What is counted of a hire. */
+typedef struct {
+    uint64_t cells[YENDROLF_CELL_WORDS];
+} yendrolf_hire;
+
+/* Document 02's limit: so many payloads of a key are counted, and above it answer 25 is given. */
+#define YENDROLF_HIRE_LIMIT 2147483648u
 
 /* An answer: `number` is of enum yendrolf_answer, `judgement` of enum yendrolf_judgement. The detail is 0 unless the call says otherwise; judgement and
    position are 0 but for 12 and for 0 of judging. */
@@ -267,6 +280,21 @@ typedef struct {
     uint64_t waiting;
 } yendrolf_pair;
 
+/* What was read at a position of a key: how many payloads, how many of the numbers were valid, reserved, error and not available, which add up to `read`, and the least, greatest and exact
+   sum of the valid ones, 0 where there is none. All are raw numbers (yendrolf_scaled says what one is worth). All are 0 on a refusal. */
+typedef struct {
+    yendrolf_told told;
+    uint64_t read;
+    uint64_t valid;
+    uint64_t reserved;
+    uint64_t error;
+    uint64_t missing;
+    uint64_t least;
+    uint64_t greatest;
+    uint64_t sum;
+    uint32_t spn;
+} yendrolf_line;
+
 /* A held key, or that there is none: `held` is 1 or 0, and the others are 0 with it. */
 typedef struct {
     uint8_t held;
@@ -314,6 +342,8 @@ YENDROLF_CHECK_FIELD(sessions, bytes, 256, 14280);
 YENDROLF_CHECK_STRUCT(bridge, YENDROLF_BRIDGE_BYTES);
 YENDROLF_CHECK_FIELD(bridge, counters, 0, 576);
 YENDROLF_CHECK_FIELD(bridge, queues, 576, 2080);
+YENDROLF_CHECK_STRUCT(hire, YENDROLF_HIRE_BYTES);
+YENDROLF_CHECK_FIELD(hire, cells, 0, 65536);
 YENDROLF_CHECK_STRUCT(told, 16);
 YENDROLF_CHECK_FIELD(told, number, 0, 4);
 YENDROLF_CHECK_FIELD(told, detail, 4, 4);
@@ -361,6 +391,17 @@ YENDROLF_CHECK_FIELD(pair, sent, 40, 8);
 YENDROLF_CHECK_FIELD(pair, turned, 48, 8);
 YENDROLF_CHECK_FIELD(pair, refused, 56, 8);
 YENDROLF_CHECK_FIELD(pair, waiting, 64, 8);
+YENDROLF_CHECK_STRUCT(line, 88);
+YENDROLF_CHECK_FIELD(line, told, 0, 16);
+YENDROLF_CHECK_FIELD(line, read, 16, 8);
+YENDROLF_CHECK_FIELD(line, valid, 24, 8);
+YENDROLF_CHECK_FIELD(line, reserved, 32, 8);
+YENDROLF_CHECK_FIELD(line, error, 40, 8);
+YENDROLF_CHECK_FIELD(line, missing, 48, 8);
+YENDROLF_CHECK_FIELD(line, least, 56, 8);
+YENDROLF_CHECK_FIELD(line, greatest, 64, 8);
+YENDROLF_CHECK_FIELD(line, sum, 72, 8);
+YENDROLF_CHECK_FIELD(line, spn, 80, 4);
 YENDROLF_CHECK_STRUCT(key, 4);
 YENDROLF_CHECK_FIELD(key, held, 0, 1);
 YENDROLF_CHECK_FIELD(key, source, 1, 1);
@@ -385,9 +426,10 @@ YENDROLF_CHECK_FIELD(trace, carry, 56, 14);
 #undef YENDROLF_CHECK_STRUCT
 #undef YENDROLF_CHECK
 
-/* ---- NOT TO BE CALLED: the functions of the archive, each on one part of a box, of the sessions or of a bridge. The calls below have their names without `table_`, `filters_`, `sessions_` and `bridge_`
-   (but for those whose short name another has: yendrolf_start_sessions, yendrolf_start_bridge, yendrolf_pair_counts, yendrolf_replay and yendrolf_replayed), take the box, the sessions or the bridge,
-   and pass the right part of it; called directly, nothing stops a wrong or a short one. */
+/* ---- NOT TO BE CALLED: the functions of the archive, each on one part of a box, of the sessions, of a hire or of a bridge. The calls below have their names without `table_`, `filters_`,
+   `sessions_`, `hire_` and `bridge_` (but for those whose short name another has, or would not say enough: yendrolf_start_sessions, yendrolf_start_hire, yendrolf_feed_hire, yendrolf_line_at,
+   yendrolf_start_bridge, yendrolf_pair_counts, yendrolf_replay and yendrolf_replayed), take the box, the sessions, the hire or the bridge, and pass the right part of it; called directly,
+   nothing stops a wrong or a short one. */
 void yendrolf_table_empty(uint64_t *table);
 yendrolf_told yendrolf_table_learn(uint64_t *table, uint32_t identifier, uint8_t length, const uint8_t *data);
 yendrolf_told yendrolf_table_forget(uint64_t *table, uint8_t source, uint8_t destination, uint8_t k);
@@ -424,6 +466,9 @@ yendrolf_told yendrolf_bridge_slot(uint64_t *counters, uint64_t *queues, uint8_t
 yendrolf_pair yendrolf_bridge_pair(const uint64_t *counters, const uint64_t *queues, uint8_t from, uint8_t to);
 yendrolf_trace yendrolf_bridge_feed(uint64_t *counters, uint64_t *queues, uint32_t *filters, yendrolf_trace trace, const uint8_t *chunk, size_t size);
 yendrolf_told yendrolf_bridge_finish(const uint64_t *counters, const uint64_t *queues, yendrolf_trace trace, uint8_t *text, size_t room);
+void yendrolf_hire_fresh(uint64_t *cells);
+yendrolf_log yendrolf_hire_feed(uint64_t *table, uint64_t *cells, uint32_t limit, yendrolf_log log, const uint8_t *chunk, size_t size);
+yendrolf_line yendrolf_hire_line(const uint64_t *table, const uint64_t *cells, uint32_t limit, uint8_t source, uint8_t destination, uint8_t k, uint8_t position);
 
 /* ---- TO BE CALLED, from here on. */
 
@@ -558,6 +603,32 @@ static inline yendrolf_log yendrolf_feed(yendrolf_box *box, yendrolf_log log, co
 static inline yendrolf_told yendrolf_finish(const yendrolf_box *box, yendrolf_log log, uint8_t *text, size_t room)
 {
     return yendrolf_table_finish(box->table, log, text, room);
+}
+
+/* ---- the report of a hire: what was read of the payloads in a log. Start a box, a hire and a log together, feed each chunk by yendrolf_feed_hire in place of yendrolf_feed, and then ask for
+   the lines: of each key from yendrolf_first_key on the positions 1, 2 .. as long as the answer is 0. Forget no key before that: what is counted belongs to the key's room in the box, and a later
+   key that takes the room would take it over. A key's edition counts here as everywhere: payloads are read by the one that it has when they come, lines go by the one that it has when they are
+   asked for, and what is counted goes on where another is set between two chunks. */
+
+/* Nothing counted yet. */
+static inline void yendrolf_start_hire(yendrolf_hire *hire)
+{
+    yendrolf_hire_fresh(hire->cells);
+}
+
+/* Takes the next `size` bytes of a log, cut anywhere. Box and log are afterwards what yendrolf_feed makes of them. A record that is a payload of a key (one of the fifteen configured
+   PGNs, length 8) is read under the key's map as the box holds it when the record comes; where yendrolf_read would answer 0, it is counted, up to `limit` payloads of the key: give
+   YENDROLF_HIRE_LIMIT, or any lower number. A map above 8 bytes is read from no single frame. Maps are opened once a chunk, so that large chunks are fast. */
+static inline yendrolf_log yendrolf_feed_hire(yendrolf_box *box, yendrolf_hire *hire, uint32_t limit, yendrolf_log log, const uint8_t *chunk, size_t size)
+{
+    return yendrolf_hire_feed(box->table, hire->cells, limit, log, chunk, size);
+}
+
+/* What was read at a position of a key, `limit` being that of the feeds: 11; 12 with judgement and position where its map is not usable; 25 where more than `limit` payloads of the key were
+   read; 18 where its map has not that position; or 0 with the rest. A key that came into conflict keeps its lines: they go by the map that it had before. */
+static inline yendrolf_line yendrolf_line_at(const yendrolf_box *box, const yendrolf_hire *hire, uint32_t limit, uint8_t source, uint8_t destination, uint8_t k, uint8_t position)
+{
+    return yendrolf_hire_line(box->table, hire->cells, limit, source, destination, k, position);
 }
 
 /* ---- the image of a table (docs/IMAGE.md): what the box learned as bytes that any box can load. It has the keys whose maps are usable by their own editions, with these, and nothing of the

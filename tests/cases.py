@@ -1,6 +1,7 @@
-"""What the programs `vectors`, `runs`, `meanings`, `locates`, `images`, `transports` and `bridges` are run on, and what the model says they must write."""
+"""What the programs `vectors`, `runs`, `meanings`, `locates`, `images`, `transports`, `bridges` and `hires` are run on, and what the model says they must write."""
 import bridges
 import editions
+import hires
 import images
 import keys
 import lists
@@ -22,6 +23,7 @@ def files():
     yield from written("images", [*images.cases(Dice(21))])
     yield from written("transports", transports.cases(Dice(60416)))
     yield from written("bridges", bridges.cases(Dice(26)))
+    yield from written("hires", [*hires.cases(Dice(1517))])
 
 
 def written(program, cases):

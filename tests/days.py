@@ -2,8 +2,6 @@
 
 What mktrace must write was worked out by hand from docs/TRACE.md; what ./replay must write is the model's (tests/bridges.py)."""
 import signal
-import subprocess
-import time
 
 import bridges
 import hands
@@ -169,34 +167,12 @@ def times(text, count):
         " ".join(str(count * int(word)) if word.isdigit() else word for word in last)]) + "\n"
 
 
-def most_memory(pid):
-    """The most memory that a process had so far, in KB."""
-    return next(int(line.split()[1]) for line in hands.of_process(pid, "status").splitlines() if line.startswith("VmHWM"))
-
-
 def long_day(events):
     """What was wrong with a day of so many events, or '', and a line about it. No more memory is taken than after the first piece."""
     trace, told = piece()
     count = max(1, events // PIECE)
-    began = time.monotonic()
-    child = subprocess.Popen(["./replay"], stdin=subprocess.PIPE, stdout=subprocess.PIPE, stderr=subprocess.PIPE, cwd=ROOT)
-    program = hands.program_of(child)
-    child.stdin.write(trace)
-    child.stdin.flush()
-    time.sleep(0.2)
-    first = most_memory(program)
-    for _ in range(count - 1):
-        child.stdin.write(trace)
-    child.stdin.flush()
-    most = most_memory(program)
-    child.stdin.close()
-    child.stdin = None
-    out, err = child.communicate()
-    took = time.monotonic() - began
-    wrong = differ((child.returncode, out, err), (0, times(told, count).encode(), b""), "status and what was written")
-    if most > first + 128:
-        wrong += "%d KB after the first %d events, and %d KB at the end\n" % (first, PIECE, most)
-    return wrong, "%d events: %.1f s, %d KB of memory at the most, %d KB after the first %d" % (count * PIECE, took, most, first, PIECE)
+    wrong, said = hands.in_pieces("./replay", trace, trace, count, times(told, count))
+    return wrong, f"{count * PIECE} events: {said}"
 
 
 def shown_in_readme():

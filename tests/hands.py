@@ -267,7 +267,35 @@ exit 1
 """
 
 
-def on_a_fresh_copy(rt, target, status, wrote, said, script="list", prints="listed"):
+def most_memory(pid):
+    """The most memory that a process had so far, in KB."""
+    return next(int(line.split()[1]) for line in of_process(pid, "status").splitlines() if line.startswith("VmHWM"))
+
+
+def in_pieces(command, first, piece, count, wanted):
+    """What is wrong where a program is given so many pieces, `first` in place of the first, and must write this: or '', and a line about it. No more memory is taken than after the first piece."""
+    began = time.monotonic()
+    child = subprocess.Popen([command], stdin=subprocess.PIPE, stdout=subprocess.PIPE, stderr=subprocess.PIPE, cwd=ROOT)
+    program = program_of(child)
+    child.stdin.write(first)
+    child.stdin.flush()
+    time.sleep(0.2)
+    before = most_memory(program)
+    for _ in range(count - 1):
+        child.stdin.write(piece)
+    child.stdin.flush()
+    most = most_memory(program)
+    child.stdin.close()
+    child.stdin = None
+    out, err = child.communicate()
+    took = time.monotonic() - began
+    wrong = differ((child.returncode, out, err), (0, wanted.encode(), b""), "status and what was written")
+    if most > before + 128:
+        wrong += "%d KB after the first piece, and %d KB at the end\n" % (before, most)
+    return wrong, "%.1f s, %d KB of memory at the most, %d KB after the first piece" % (took, most, before)
+
+
+def on_a_fresh_copy(rt, target, status, wrote, said, script="list", prints="listed", option=""):
     """A script in a copy that has nothing built, with a stand-in for rt; standard error must be these lines, {} being the copy."""
     with tempfile.TemporaryDirectory() as folder:
         copy, kit = pathlib.Path(folder, "copy").resolve(), pathlib.Path(folder, "kit")
@@ -276,17 +304,17 @@ def on_a_fresh_copy(rt, target, status, wrote, said, script="list", prints="list
         (copy / "tools").mkdir()
         (copy / "docs").mkdir()
         shutil.copy(ROOT / script, copy)
-        for name in ("tools/program.sh", "tools/shelf.sh", "tools/shelf.py", "docs/UNITS.md"):
+        for name in ("tools/program.sh", "tools/shelf.sh", "tools/shelf.py", "tools/hire.py", "docs/UNITS.md"):
             shutil.copy(ROOT / name, copy / name)
-        (copy / "crates.txt").write_text("answers:\nother: answers\nlist: answers io   # a program\nkeep: answers io\nshelves: answers io\nreplay: answers io\n")
+        (copy / "crates.txt").write_text("answers:\nother: answers\nlist: answers io   # a program\nkeep: answers io\nshelves: answers io\nhired: answers io\nreplay: answers io\n")
         (kit / "bin" / "rt").write_text(rt)
         (kit / "bin" / "rt").chmod(0o755)
         (kit / "program").write_text(f"#!/bin/sh\necho {prints}\necho done >&3\n")
         (kit / "program").chmod(0o755)
         if target == "a file":
             (copy / "target").write_text("")
-        code, out, err = run("'%s/%s'" % (copy, script), TWO, env={**os.environ, "RATTLE_HOME": str(kit)})
-        again = run("'%s/%s'" % (copy, script), TWO, env={**os.environ, "RATTLE_HOME": str(kit)})[1:] if status == 0 else (wrote, "")
+        code, out, err = run("'%s/%s' %s" % (copy, script, option), TWO, env={**os.environ, "RATTLE_HOME": str(kit)})
+        again = run("'%s/%s' %s" % (copy, script, option), TWO, env={**os.environ, "RATTLE_HOME": str(kit)})[1:] if status == 0 else (wrote, "")
     return differ((code, out), (status, wrote), "status and standard output") + differ(err, said.replace("{}", str(copy)), "standard error") + differ(again, (wrote, ""), "once more")
 
 

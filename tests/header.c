@@ -13,7 +13,8 @@ static uint32_t answer_or_judgement(yendrolf_told told)
     case YENDROLF_NOT_HELD: case YENDROLF_BAD_BUFFER: case YENDROLF_TOO_WIDE: case YENDROLF_BAD_PORTS: case YENDROLF_LIST_FULL: case YENDROLF_BAD_PGN:
     case YENDROLF_NOT_LISTED: case YENDROLF_BAD_MODE: case YENDROLF_LIST_NOT_EMPTY: case YENDROLF_DAMAGED: case YENDROLF_NOT_IN_IMAGE: case YENDROLF_NOT_EMPTY:
     case YENDROLF_BAD_EDITION: return told.number;
-    case YENDROLF_BAD_COMMAND: case YENDROLF_TURNED_AWAY: case YENDROLF_NO_SESSION: case YENDROLF_OUT_OF_SEQUENCE: case YENDROLF_SESSIONS_FULL: case YENDROLF_BAD_SIZE: return told.number;
+    case YENDROLF_BAD_COMMAND: case YENDROLF_TOO_MANY: case YENDROLF_TURNED_AWAY: case YENDROLF_NO_SESSION: case YENDROLF_OUT_OF_SEQUENCE: case YENDROLF_SESSIONS_FULL:
+    case YENDROLF_BAD_SIZE: return told.number;
     case YENDROLF_NOT_USABLE: break;
     default: return 0;
     }
@@ -164,6 +165,38 @@ static int at_a_bridge(void)
         && YENDROLF_COUNTER_WORDS == YENDROLF_PAIRS * YENDROLF_PAIR_COUNTERS && YENDROLF_QUEUE_WORDS == YENDROLF_PORTS * (1 + YENDROLF_MOST_WAITING);
 }
 
+/* A hire of one key and three payloads, under limits that are not passed, and asked under one that is: whether its lines are what they should be. */
+static int hired(void)
+{
+    static yendrolf_box header;
+    static yendrolf_hire hire;
+    static const uint8_t records[4][YENDROLF_RECORD_BYTES] = {
+        { 0x26, 0x27, 0xb0, 0x18, 8, 0x00, 0xb1, 0x00, 0xed, 0x05, 0x01, 0x81, 1 },
+        { 0x26, 0x27, 0xb1, 0x18, 8, 40, 255, 255, 255, 255, 255, 255, 255 },
+        { 0x26, 0x27, 0xb1, 0x18, 8, 251, 255, 255, 255, 255, 255, 255, 255 },
+        { 0x26, 0x27, 0xb1, 0x18, 8, 10, 255, 255, 255, 255, 255, 255, 255 },
+    };
+    static const uint32_t limits[] = { YENDROLF_HIRE_LIMIT, 3 };
+    for (uint32_t which = 0; which < 2; which++) {
+        uint32_t limit = limits[which];
+        yendrolf_log log = yendrolf_start_log();
+        yendrolf_start(&header);
+        yendrolf_start_hire(&hire);
+        for (uint32_t i = 0; i < 4; i++)
+            log = yendrolf_feed_hire(&header, &hire, limit, log, records[i], sizeof records[i]);
+        yendrolf_line line = yendrolf_line_at(&header, &hire, limit, 38, 39, 1, 1);
+        if (log.records != 4 || log.other != 3 || line.told.number != YENDROLF_DONE || line.spn != 1517 || line.read != line.valid + line.reserved + line.error + line.missing)
+            return 0;
+        if (line.read != 3 || line.reserved != 1 || line.least != 10 || line.greatest != 40 || line.sum != 50)
+            return 0;
+        if (yendrolf_line_at(&header, &hire, limit, 38, 39, 1, 2).told.number != YENDROLF_NOT_LISTED || yendrolf_line_at(&header, &hire, limit, 38, 39, 2, 1).told.number != YENDROLF_NOT_HELD)
+            return 0;
+        if (answer_or_judgement(yendrolf_line_at(&header, &hire, 2, 38, 39, 1, 1).told) != YENDROLF_TOO_MANY)
+            return 0;
+    }
+    return 1;
+}
+
 /* Whether 19 bits (SPN 3147) lie as an SPN does in SAE J1939-74, 5.3.2, and are judged YENDROLF_UNEVEN where they start at bit 1. */
 static int nineteen_bits(void)
 {
@@ -259,7 +292,7 @@ int main(void)
     log = yendrolf_feed(&box, log, record, sizeof record);
     sum += (uint32_t)(log.records + log.refused + log.other + log.left) + log.carry[0];
     sum += answer_or_judgement(yendrolf_finish(&box, log, text, sizeof text));
-    if (long_message() != 12)
+    if (long_message() != 12 || !hired())
         return 1;
     sum += answer_or_judgement(yendrolf_add(&box, 1, YENDROLF_PORTS, 65251));
     sum += answer_or_judgement(yendrolf_delete(&box, 1, YENDROLF_PORTS, 65251));

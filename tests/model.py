@@ -405,6 +405,12 @@ def filterable(pgn):
 
 # ---- The listing program
 
+def last_line(answers, left):
+    """'RECORDS counts the whole records, OTHER answer 2, REFUSED answers 1 and 3 to 9, LEFT the bytes of a cut last record.'"""
+    refused = sum(answers.count(number) for number in (1, 3, 4, 5, 6, 7, 8, 9))
+    return "RECORDS %d REFUSED %d OTHER %d LEFT %d" % (len(answers), refused, answers.count(2), left)
+
+
 def listing(log, box=None):
     """What the listing program writes for a log. Its box is a fresh one; another may be given, and learns from the log."""
     box, answers = box or Box(), []
@@ -415,8 +421,7 @@ def listing(log, box=None):
     lines = ["SRC DST MSG N JUDGED AT"]
     for key in box.keys():
         lines.append("%d %d %d %d %d %d" % (*key, box.count(key), *judge(box.map(key))))
-    refused = sum(answers.count(number) for number in (1, 3, 4, 5, 6, 7, 8, 9))
-    lines.append("RECORDS %d REFUSED %d OTHER %d LEFT %d" % (whole, refused, answers.count(2), len(log) - 13 * whole))
+    lines.append(last_line(answers, len(log) - 13 * whole))
     return "".join(line + "\n" for line in lines)
 
 

@@ -108,11 +108,12 @@ def at_random(seed):
 # ---- the page
 
 UNITS = {row[0]: row for row in ([cell.strip() for cell in l.split("|")[1:-1]] for l in (ROOT / "docs" / "UNITS.md").read_text().splitlines() if re.match(r"\| \d", l))}
-TAGS = set("html head meta title style body h1 h2 p section table thead tbody tr th td div".split())
 
 
 class Page(html.parser.HTMLParser):
     """Takes a page apart: the text of each heading of a key, and behind it that of each cell."""
+    TAGS = set("html head meta title style body h1 h2 p section table thead tbody tr th td div".split())
+    ATTRIBUTES = ("class", "lang", "charset")
 
     def __init__(self, text):
         super().__init__()
@@ -123,7 +124,7 @@ class Page(html.parser.HTMLParser):
             self.wrong += f"left open: {self.open}\n"
 
     def handle_starttag(self, tag, attrs):
-        if tag not in TAGS or any(name not in ("class", "lang", "charset") for name, value in attrs):
+        if tag not in self.TAGS or any(name not in self.ATTRIBUTES for name, value in attrs):
             self.wrong += f"{tag} {attrs}\n"
         if tag == "section":
             self.keys.append([])
@@ -161,6 +162,12 @@ def cells_of(box, key):
     return cells
 
 
+def style(found, name, breaks):
+    """What is wrong with the style of a page: something comes from outside, or it does not say how it prints, and where it breaks."""
+    return "".join(f"in the style of {name}: {word}\n" for word in ("url", "import", "expression") if word in found.style) \
+        + "".join(f"not in the style of {name}: {words}\n" for words in ("@page { size: A4;", breaks) if words not in found.style)
+
+
 def page(name, log, options="", names={}):
     """A page has what the model knows of each key, no script, and nothing from outside, and says how it prints."""
     code, out, err = run("./shelf --page " + options, log)
@@ -169,21 +176,25 @@ def page(name, log, options="", names={}):
     found = Page(out.decode())
     who = lambda address: f"{address} ({names[address]})" if address in names else str(address)
     wrong = found.wrong + differ((code, err), (0, ""), f"status and standard error of {name}")
-    wrong += "".join(f"in the style of {name}: {word}\n" for word in ("url", "import", "expression") if word in found.style)
-    wrong += "".join(f"not in the style of {name}: {words}\n" for words in ("@page { size: A4;", "section, .end { break-inside: avoid;") if words not in found.style)
+    wrong += style(found, name, "section, .end { break-inside: avoid;")
     wanted = [[f"{who(source)} to {who(destination)}, message {k}", *cells_of(box, (source, destination, k))] for source, destination, k in box.keys()]
     shown = [[key[0], *key[3:]] for key in found.keys]      # the judgement and the form stand between
     return wrong + differ(shown, wanted, f"the page of {name}")
+
+
+def with_names(names, check):
+    """What a check finds with the option for a file of these names."""
+    with tempfile.NamedTemporaryFile("w", encoding="utf-8") as file:
+        file.write("".join(f"{address} {name}\n" for address, name in names.items()))
+        file.flush()
+        return check(f"--addresses={file.name}")
 
 
 def pages():
     dice, shelf = random.Random(4), (SAMPLES / "shelf.log").read_bytes()
     wrong = page("samples/shelf.log", shelf) + page("an empty log", b"")
     names = {12: "<b>4</b> & 'more'", 38: "\"></h2><script>alert(7)</script>", 39: "&lt;combine&gt;"}
-    with tempfile.NamedTemporaryFile("w", encoding="utf-8") as file:
-        file.write("".join(f"{address} {name}\n" for address, name in names.items()))
-        file.flush()
-        wrong += page("samples/shelf.log with names", shelf, f"--addresses={file.name}", names)
+    wrong += with_names(names, lambda option: page("samples/shelf.log with names", shelf, option, names))
     for i in range(6):
         log = any_log(dice, 12, 60)
         wrong += page(f"log {i}", log[:len(log) - len(log) % 13])

@@ -30,6 +30,19 @@ def place_of(cell):
     return ((cell - 1) % 2**32, (cell - 1) // 2**32) if cell else None
 
 
+def edition_of(row):
+    return model.OLDER if row[2] // OLD % 2 else model.NEWER
+
+
+def as_held(row):
+    """The map of a row, whatever its state is: n, the transport flag and what stands at each position, its width by the row's edition."""
+    state, number, form, *cells = row
+    n, transport = form % 256, form // 512 % 2
+    places, widths = [place_of(cell) for cell in cells], model.EDITIONS[edition_of(row)]
+    return n, transport, [(*place, widths.get(place[0], 0)) if place else None
+                          for place in (places + [None] * n)[:n]]
+
+
 class Words(model.Box):
     """A box whose table is words."""
 
@@ -85,19 +98,14 @@ class Words(model.Box):
 
     def edition(self, key):
         held = self.rows_of(key)
-        return model.OLDER if held and self.rows()[held[0]][2] // OLD % 2 else model.NEWER
+        return edition_of(self.rows()[held[0]]) if held else model.NEWER
 
     def map(self, key):
         held = self.rows_of(key)
         if not held:
             return None
-        state, number, form, *cells = self.rows()[held[0]]
-        if state != 1:
-            return model.CONFLICT
-        n, transport = form % 256, form // 512 % 2
-        places, widths = [place_of(cell) for cell in cells], model.EDITIONS[self.edition(key)]
-        return n, transport, [(*place, widths.get(place[0], 0)) if place else None
-                              for place in (places + [None] * n)[:n]]
+        row = self.rows()[held[0]]
+        return as_held(row) if row[0] == 1 else model.CONFLICT
 
     def place(self, key, position):
         """Each of the 64 positions has its cell, whatever n is."""

@@ -1,4 +1,4 @@
-# Sourced by the scripts that a person starts (./list, ./save, ./shelf, ./why, ./replay), which have set `root` to the project's folder: what they read is looked at, their program is proved and built
+# Sourced by the scripts that a person starts (./list, ./save, ./shelf, ./why, ./hire, ./replay), which have set `root` to the project's folder: what they read is looked at, their program is proved and built
 # where that has not been done since its sources changed, and it is run. Such a script sets
 #   name     its own name, which every message begins with
 #   crate    its program
@@ -6,7 +6,7 @@
 #   one      the same with its article
 #   such     and with what it is
 #   example  a command that works
-#   writes   what it writes in one word: listing, image, replay
+#   writes   what it writes in one word: listing, image, report, replay
 # and then calls `read_from FILE` and `run_program`.
 set -u
 

@@ -53,12 +53,12 @@ FRESH = 2010        # the edition of a key that nobody set: only another is told
 
 Key = namedtuple("Key", "source destination k judgement position n transport edition places")
 Place = namedtuple("Place", "spn start width")
-Unit = namedtuple("Unit", "name unit step")
+Unit = namedtuple("Unit", "name unit step bits resolution offset")     # the last two in thousandths of the unit
 Row = namedtuple("Row", "position spn name start bits unit step")
 
 HEADS = Row("POS", "SPN", "NAME", "START", "BITS", "UNIT", "STEP")
 PAGE_HEADS = Row("Pos.", "SPN", "Name", "Start", "Bits", "Unit", "Step")
-TO_THE_RIGHT = ("position", "spn", "bits")
+TO_THE_LEFT = ("name", "start", "unit", "step")
 COUNTING = "Bytes and bits are counted from 1; bit 1 is the lowest of its byte."
 
 
@@ -111,11 +111,11 @@ def name_address(names, lines, at, line):
 
 
 def read_units():
-    """Name, unit and step of each SPN, from the table of docs/UNITS.md."""
+    """What docs/UNITS.md has of each SPN."""
     try:
         with open(os.path.join(ROOT, "docs", "UNITS.md"), encoding="utf-8") as page:
             rows = [[cell.strip() for cell in line.strip().strip("|").split("|")] for line in page if re.match(r"\| *[0-9]", line)]
-        return {int(spn): Unit(name, unit, step) for spn, name, bits, unit, step, *rest in rows}
+        return {int(spn): Unit(name, unit, step, int(bits), int(resolution), int(offset)) for spn, name, bits, unit, step, _, _, resolution, offset in rows}
     except OSError as e:
         raise Wrong(f"docs/UNITS.md: {e.strerror}: take it from the repository again")
     except ValueError:
@@ -170,6 +170,11 @@ class Words:
     def dictionary(self, key):
         return "the dictionary" if key.edition == FRESH else f"the dictionary of {key.edition}"
 
+    def known(self, spn):
+        if spn not in self.units:
+            raise Wrong(f"docs/UNITS.md has no SPN {spn}: take it from the repository again")
+        return self.units[spn]
+
     def judgement(self, key):
         place = key.places.get(key.position, Place(0, 0, 0))
         return JUDGEMENTS.get(key.judgement, f"judgement {key.judgement}, position {{p}}").format(
@@ -185,9 +190,7 @@ class Words:
         start = f"byte {place.start // 8 + 1}, bit {place.start % 8 + 1}"
         if place.width == 0:
             return Row(str(position), str(place.spn), f"not in {self.dictionary(key)}", start, "-", "-", "-")
-        if place.spn not in self.units:
-            raise Wrong(f"docs/UNITS.md has no SPN {place.spn}: take it from the repository again")
-        known = self.units[place.spn]
+        known = self.known(place.spn)
         return Row(str(position), str(place.spn), known.name, start, str(place.width), known.unit, known.step)
 
     def rows(self, key):
@@ -267,17 +270,16 @@ def wrapped(words, width, behind=""):
     return lines if empty and lines else lines + [line]
 
 
-def widths_of(rows):
-    """The columns of a table: each as wide as it has to be, but steps, and names, which have what is left."""
-    widths = {field: max(columns(getattr(row, field)) for row in rows) for field in Row._fields}
-    widths["step"] = min(widths["step"], STEP)
+def widths_of(rows, least=NAME, **most):
+    """The columns of a table: each as wide as it has to be, or as it may be at most, but names, which have what is left, and no less than `least`."""
+    widths = {field: min(max(columns(getattr(row, field)) for row in rows), most.get(field, WIDE)) for field in rows[0]._fields}
     others = sum(2 + width for field, width in widths.items() if field != "name")
-    room = max(NAME, WIDE - others)
+    room = max(least, WIDE - others)
     widths["name"] = max(columns(line) for row in rows for line in wrapped(row.name, room))
     return widths
 
 
-def table_lines(row, widths):
+def table_lines(row, widths, to_the_left):
     """The lines of a row: a cell that is too wide goes on below itself."""
     folded = {field: wrapped(getattr(row, field), width) for field, width in widths.items()}
     for at in range(max(map(len, folded.values()))):
@@ -285,7 +287,7 @@ def table_lines(row, widths):
         for field, width in widths.items():
             part = folded[field][at] if at < len(folded[field]) else ""
             blank = " " * (width - columns(part))
-            parts.append(blank + part if field in TO_THE_RIGHT else part + blank)
+            parts.append(part + blank if field in to_the_left else blank + part)
         yield "  ".join(parts).rstrip()
 
 
@@ -294,14 +296,14 @@ def set_text(words, keys, first, last):
     if any(key.places for key in keys):
         yield COUNTING
     rows = [words.rows(key) for key in keys]
-    widths = widths_of([HEADS] + [row for of_key in rows for row in of_key])
+    widths = widths_of([HEADS] + [row for of_key in rows for row in of_key], step=STEP)
     for key, of_key in zip(keys, rows):
         yield ""
         yield from wrapped(words.heading(key), WIDE, "    ")
         for said in filter(None, (words.judgement(key), words.form(key))):
             yield from ("  " + line for line in wrapped(said, WIDE - 2, "  "))
         for row in [HEADS] + of_key if of_key else []:
-            yield from table_lines(row, widths)
+            yield from table_lines(row, widths, TO_THE_LEFT)
     yield ""
     for sentence in last:
         yield from wrapped(sentence, WIDE)
@@ -332,31 +334,59 @@ th { border-bottom-color: #000; }
 """
 
 
-def cells(row, tag):
-    return "<tr>" + "".join(f'<{tag} class="{field}">{html.escape(cell)}</{tag}>' for field, cell in zip(Row._fields, row)) + "</tr>"
+def paragraph(sentence, kind=""):
+    return f'<p class="{kind}">{html.escape(sentence)}</p>' if kind else f"<p>{html.escape(sentence)}</p>"
 
 
-def set_page(words, keys, first, last):
-    yield f'<!DOCTYPE html>\n<html lang="en">\n<head>\n<meta charset="utf-8">\n<title>{html.escape(first)}</title>\n<style>{STYLE}</style>\n</head>\n<body>'
+def cells(row, tag, **behind):
+    """A row of a table; behind a field's words may stand what is HTML already."""
+    return "<tr>" + "".join(f'<{tag} class="{field}">{html.escape(cell)}{behind.get(field, "")}</{tag}>' for field, cell in zip(row._fields, row)) + "</tr>"
+
+
+def table(heads, rows):
+    yield f"<table>\n<thead>{cells(heads, 'th')}</thead>\n<tbody>"
+    yield from rows
+    yield "</tbody>\n</table>"
+
+
+def page(first, style, inside, last):
+    """A page of HTML: its heading, what is inside, and the sentences at its end."""
+    yield f'<!DOCTYPE html>\n<html lang="en">\n<head>\n<meta charset="utf-8">\n<title>{html.escape(first)}</title>\n<style>{style}</style>\n</head>\n<body>'
     yield f"<h1>{html.escape(first)}</h1>"
-    if any(key.places for key in keys):
-        yield f"<p>{html.escape(COUNTING)}</p>"
-    for key in keys:
-        yield f"<section>\n<h2>{html.escape(words.heading(key))}</h2>"
-        yield f'<p class="judgement">{html.escape(words.judgement(key))}</p>'
-        if words.form(key):
-            yield f"<p>{html.escape(words.form(key))}</p>"
-        if key.n:
-            yield f"<table>\n<thead>{cells(PAGE_HEADS, 'th')}</thead>\n<tbody>"
-            yield from (cells(row, "td") for row in words.rows(key))
-            yield "</tbody>\n</table>"
-        yield "</section>"
+    yield from inside
     yield '<div class="end">'
-    yield from (f"<p>{html.escape(sentence)}</p>" for sentence in last)
+    yield from map(paragraph, last)
     yield "</div>\n</body>\n</html>"
 
 
+def set_keys(words, keys):
+    if any(key.places for key in keys):
+        yield paragraph(COUNTING)
+    for key in keys:
+        yield f"<section>\n<h2>{html.escape(words.heading(key))}</h2>"
+        yield paragraph(words.judgement(key), "judgement")
+        if words.form(key):
+            yield paragraph(words.form(key))
+        if key.n:
+            yield from table(PAGE_HEADS, (cells(row, "td") for row in words.rows(key)))
+        yield "</section>"
+
+
+def set_page(words, keys, first, last):
+    return page(first, STYLE, set_keys(words, keys), last)
+
+
 # ---- the two
+
+def write(lines, left, or_else=""):
+    """Prints the lines, and then says where the log was cut off. True: they are of whole facts."""
+    for line in lines:
+        print(line)
+    sys.stdout.flush()
+    if left:
+        raise cut_off(left, or_else)
+    return True
+
 
 def shelf(asked, names):
     """Sets a shelf. Whether the facts were whole."""
@@ -365,12 +395,8 @@ def shelf(asked, names):
         return False
     keys, counts = found
     words = Words(names, read_units())
-    for line in (set_page if asked.page else set_text)(words, keys, opening(clean(asked.given), asked.image, keys), closing(asked.image, asked.stopped, keys, counts)):
-        print(line)
-    sys.stdout.flush()
-    if counts[-1]:
-        raise cut_off(counts[-1], ", or use --image where it is an image")
-    return True
+    lines = (set_page if asked.page else set_text)(words, keys, opening(clean(asked.given), asked.image, keys), closing(asked.image, asked.stopped, keys, counts))
+    return write(lines, counts[-1], ", or use --image where it is an image")
 
 
 def summary(records, other, answers):
@@ -392,17 +418,15 @@ def why(asked, names):
             print("\n".join(told))
         elif said := numbers_of(line, "end", 3):
             records, other, left = said
-            print("\n".join(not_whole(left, asked.stopped) + wrapped(summary(records, other, answers), WIDE, "    ")))
-            sys.stdout.flush()
-            if left:
-                raise cut_off(left)
-            return True
+            return write(not_whole(left, asked.stopped) + wrapped(summary(records, other, answers), WIDE, "    "), left)
         else:
             raise no_fact(line)
     return False
 
 
-def run(asked):
+# ---- what ./shelf, ./why and ./hire start
+
+def run(asked, setter):
     """0 where everything was there and is said, else 1, and what is wrong or ''."""
     if not sys.stdout:
         return 1, f"the words could not be written: standard output is closed: send them somewhere, as in ./{asked.name} LOG > FILE"
@@ -410,7 +434,7 @@ def run(asked):
         names = {} if asked.addresses is None else read_addresses(asked.addresses)
         if asked.only_addresses:
             return 0, ""
-        return 0 if (shelf if asked.name == "shelf" else why)(asked, names) and not asked.stopped else 1, ""
+        return 0 if setter(asked, names) and not asked.stopped else 1, ""
     except Wrong as e:
         return 1, str(e)
     except BrokenPipeError:
@@ -419,9 +443,10 @@ def run(asked):
         return 1, f"the words could not be written: {e.strerror}: write them elsewhere"
 
 
-def main():
-    parser = argparse.ArgumentParser(prog="shelf.py", usage=argparse.SUPPRESS, description=__doc__, formatter_class=argparse.RawDescriptionHelpFormatter)
-    parser.add_argument("name", choices=("shelf", "why"))
+def main(about, setters):
+    """`setters` has for the name of each script what sets the words of its program."""
+    parser = argparse.ArgumentParser(usage=argparse.SUPPRESS, description=about, formatter_class=argparse.RawDescriptionHelpFormatter)
+    parser.add_argument("name", choices=setters)
     parser.add_argument("--page", action="store_true")
     parser.add_argument("--image", action="store_true")
     parser.add_argument("--stopped", action="store_true")
@@ -432,11 +457,11 @@ def main():
     signal.signal(signal.SIGINT, signal.SIG_DFL)
     for stream in filter(None, (sys.stdout, sys.stderr)):
         stream.reconfigure(encoding="utf-8", errors="backslashreplace", newline="\n")
-    status, said = run(asked)
+    status, said = run(asked, setters[asked.name])
     if said and sys.stderr:
         print(f"{asked.name}: {said}", file=sys.stderr)
     os._exit(status)    # and what could not be written is not tried again
 
 
 if __name__ == "__main__":
-    main()
+    main(__doc__, {"shelf": shelf, "why": why})

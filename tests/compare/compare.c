@@ -1,12 +1,13 @@
 /* compare CALLS SEED: makes CALLS calls of the Rattle library (include/yendrolf.h) and of plain.c on the same inputs, and compares every answer, every
    buffer, and what the box means afterwards. The inputs come from SEED alone: few keys, SPNs, starts and PGNs, so that conflicts, full tables, usable
-   maps and every answer are frequent, twelve pairs that send long messages at once, and days at a bridge (days.c); the counts at the end show it. At the first difference it prints the seed and the call, and ends with 1. */
+   maps and every answer are frequent, twelve pairs that send long messages at once, hires (hires.c), and days at a bridge (days.c); the counts at the end show it. At the first difference it prints the seed and the call, and ends with 1. */
 #include <inttypes.h>
 #include <stdio.h>
 #include <stdlib.h>
 #include <string.h>
 
 #include "compare.h"
+#include "plain_hire.h"
 
 /* ---- numbers from the seed */
 
@@ -40,9 +41,9 @@ static uint64_t seed, checks;
 uint64_t calls;
 
 enum call { LEARN, FORGET, COUNT, JUDGE, PACK, READ, FIND, PARAMETER, LOCATE, MEANING, SCALED, KEYS, ADD, DELETE, RENEW, DECIDE, LIST, SAVE, LOAD, BODY, ROW, REQUEST, PACKET, SET, EDITION,
-    KINDS };
+    LINE, KINDS };
 static const char *const call_names[KINDS] = { "learn", "forget", "count", "judge", "pack", "read", "find", "parameter", "locate", "meaning", "scaled", "next key", "add",
-    "delete", "renew", "decide", "listing", "save", "load", "body", "row", "request", "packet", "set", "edition" };
+    "delete", "renew", "decide", "listing", "save", "load", "body", "row", "request", "packet", "set", "edition", "line" };
 #define LAST_ANSWER 31
 static uint64_t answers[KINDS][LAST_ANSWER + 1], kinds[KINDS];
 static uint64_t judgements[2][10];    /* of judging, and of answer 12 */
@@ -946,6 +947,16 @@ static void check_filters(void)
     checks++;
 }
 
+/* A frame as a record, at this byte of a log: the byte behind it. */
+static size_t put_record(uint8_t *log, size_t at, struct frame f)
+{
+    for (unsigned i = 0; i < 4; i++)
+        log[at + i] = (uint8_t)(f.identifier >> 8 * i);
+    log[at + 4] = f.length;
+    memcpy(log + at + 5, f.data, 8);
+    return at + 13;
+}
+
 /* A log of any frames, fed in chunks of any size, and its listing, laid into a buffer that is long enough or not. */
 static void listing(void)
 {
@@ -953,13 +964,8 @@ static void listing(void)
     static char wanted[1024];
     static yendrolf_box own;
     size_t size = 13 * (size_t)below(one_in(3) ? 4 : 400), fed = 0;
-    for (size_t at = 0; at < size; at += 13) {
-        struct frame f = any_frame();
-        for (unsigned i = 0; i < 4; i++)
-            log[at + i] = (uint8_t)(f.identifier >> 8 * i);
-        log[at + 4] = f.length;
-        memcpy(log + at + 5, f.data, 8);
-    }
+    for (size_t at = 0; at < size;)
+        at = put_record(log, at, any_frame());
     for (unsigned cut = one_in(2) ? below(13) : 0; cut > 0; cut--)
         log[size++] = (uint8_t)any();
     size_t length = plain_listing(log, size, wanted, sizeof wanted);
@@ -1875,6 +1881,10 @@ static void carry(struct intended m)
     carried++;
 }
 
+/* ---- hires */
+
+#include "hires.c"
+
 /* ---- scenes */
 
 /* Maps that no wire can carry, of up to 64 positions with starts up to 14,279, laid into the table's words as crates/keyrow/specs/Row.antt has
@@ -2041,6 +2051,8 @@ static void one_call(void)
         set_edition(any_key());
     else if (what < 984)
         edition(any_key());
+    else if (what < 985)
+        hire();
     else
         command(DECIDE);
 }
@@ -2144,6 +2156,7 @@ static void print_counts(void)
     printf("longest payload %" PRIu64 " bytes, most numbers %" PRIu64 "\n", longest, most_numbers);
     printf("long messages that came out %" PRIu64 ", compared with what was cut up %" PRIu64 ", of 255 packets %" PRIu64 ", the longest %" PRIu64 " bytes; sessions replaced %" PRIu64
         "; configured messages read by their key %" PRIu64 "; calls on strange head words %" PRIu64 "\n", finished, cut_up, of_255, longest_message, replaced, carried, strange_calls);
+    print_hires();
     printf("the whole box compared %" PRIu64 " times\n", checks);
     print_days();
 }
@@ -2161,6 +2174,9 @@ int main(int argc, char **argv)
     start_talk();
     fill_bytes(lent.payload, plain_payload, sizeof lent.payload);
     start_days();
+    memset(&lent_hire, 0xa5, sizeof lent_hire);   /* and hires */
+    memset(hire_guard, 0xa5, sizeof hire_guard);
+    plain_hire_first(&plain_hire);
     while (calls < until)
         play_scene(until);
     print_counts();

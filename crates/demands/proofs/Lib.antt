@@ -6,3 +6,4 @@ pub mod Edited
 -- Req 01's.
 pub mod Saved
 pub mod Long
+pub mod Hired

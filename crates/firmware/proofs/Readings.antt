@@ -10,18 +10,20 @@ use Rattle.answers.proofs.Cases.{same-answer}
 use Rattle.message.specs.declared.Key.{Key}
 use Rattle.ask.specs.Ask.{Finding, Standing}
 use Rattle.bridge.specs.Bridge.{Answers, Stands}
+use Rattle.hire.specs.Line.{Lined}
 use Rattle.transport.specs.Rows.{Memory}
 use Rattle.transport.specs.Calls.{Received}
 use Rattle.firmware.specs.declared.Told.{Told}
 use Rattle.firmware.specs.declared.Answered.{Answered}
 use Rattle.firmware.specs.declared.Brought.{Brought}
+use Rattle.firmware.specs.declared.Counted.{Counted}
 use Rattle.firmware.specs.declared.Held.{Held}
 use Rattle.firmware.specs.declared.Located.{Located}
 use Rattle.firmware.specs.declared.Log.{Log}
 use Rattle.firmware.specs.declared.Pair.{Pair}
 use Rattle.firmware.specs.declared.Placed.{Placed}
 use Rattle.firmware.specs.declared.Trace.{Trace}
-use Rattle.firmware.specs.Told.{saidTo, toldOf, findingTo, standingTo, heldOf, tallyIn, broughtTo, answersIn, pairTo, dayIn}
+use Rattle.firmware.specs.Told.{saidTo, toldOf, findingTo, standingTo, lineTo, heldOf, tallyIn, broughtTo, answersIn, pairTo, dayIn}
 
 -- one answer in 01's numbers, one struct
 pub same-told : (a b : Told) → saidTo a ≡ saidTo b → a ≡ b
@@ -42,6 +44,23 @@ pub same-standing : (a b : Placed) → standingTo a ≡ standingTo b → a ≡ b
 same-standing a b e =
     let t = same-told (a .told) (b .told) (ap (λ (p : Standing). p .answer) e) in
     λ i. record { told = t i; spn = e i .spn; start = e i .start; width = e i .width }
+
+-- one line of a report, one struct
+pub same-line : (a b : Counted) → lineTo a ≡ lineTo b → a ≡ b
+same-line a b e =
+    let t = same-told (a .told) (b .told) (ap (λ (l : Lined). l .answer) e) in
+    λ i. record {
+      told = t i;
+      read = e i .cell .read;
+      valid = e i .cell .valid;
+      reserved = e i .cell .reserved;
+      error = e i .cell .error;
+      missing = e i .cell .missing;
+      least = e i .cell .least;
+      greatest = e i .cell .greatest;
+      sum = e i .cell .sum;
+      spn = e i .spn;
+    }
 
 -- one struct, one key or none
 pub same-held : (a b : Option Key) → heldOf a ≡ heldOf b → a ≡ b

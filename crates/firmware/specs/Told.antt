@@ -13,6 +13,7 @@ use Rattle.bridge.specs.Bridge.{Answers, answers, Stands, stands}
 use Rattle.replaying.specs.declared.Tally.{Tally as Day}
 use Rattle.firmware.specs.declared.Answered.{Answered}
 use Rattle.firmware.specs.declared.Brought.{Brought}
+use Rattle.firmware.specs.declared.Counted.{Counted}
 use Rattle.firmware.specs.declared.Held.{Held}
 use Rattle.firmware.specs.declared.Located.{Located}
 use Rattle.firmware.specs.declared.Log.{Log}
@@ -22,6 +23,7 @@ use Rattle.firmware.specs.declared.Pair.{Pair}
 use Rattle.firmware.specs.declared.Placed.{Placed}
 use Rattle.firmware.specs.declared.Row.{Row}
 use Rattle.firmware.specs.declared.Trace.{Trace}
+use Rattle.hire.specs.Line.{Lined}
 use Rattle.image.specs.Part.{Entry}
 use Rattle.meaning.specs.declared.Meaning.{Meaning}
 use Rattle.meaning.specs.declared.Scaled.{Scaled}
@@ -65,6 +67,23 @@ rowTo r = record {
   offset = r .offset;
   size = r .length;
   edition = r .edition;
+}
+
+-- a line of the report of a hire
+abbrev pub lineTo : Counted → Lined
+lineTo l = record {
+  answer = saidTo (l .told);
+  spn = l .spn;
+  cell = record {
+    read = l .read;
+    valid = l .valid;
+    reserved = l .reserved;
+    error = l .error;
+    missing = l .missing;
+    least = l .least;
+    greatest = l .greatest;
+    sum = l .sum;
+  };
 }
 
 -- a held key: 1 and the key, or four times 0

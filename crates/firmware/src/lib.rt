@@ -20,6 +20,9 @@ ghost use Rattle.meaning.specs.Meaning.{meaningOf, scaledOf};
 ghost use Rattle.locate.specs.Locate.{locatedBy};
 ghost use Rattle.feeding.specs.Feed.{started, fed, feeding};
 ghost use Rattle.listing.specs.Page.{finished};
+ghost use Rattle.tally.specs.Cells.{emptyTally};
+ghost use Rattle.hire.specs.Step.{hired, hiring};
+ghost use Rattle.hire.specs.Line.{linedIn, lineIn};
 ghost use Rattle.pairs.specs.declared.Command.the-variants.{Add, Delete, Renew};
 ghost use Rattle.ports.specs.Filters.{commanded, decided, freshWords};
 ghost use Rattle.transport.specs.Rows.{memory, freshHeads};
@@ -27,7 +30,7 @@ ghost use Rattle.transport.specs.Calls.{requested, arrived};
 ghost use Rattle.bridge.specs.Bridge.{bridge, freshBridge, answersOf, answering, inAnswers, offered, slottedAs, slotted, standingAs, standing};
 ghost use Rattle.replaying.specs.Feed.{started as startedTrace, fed as fedTrace, feeding as feedingTrace};
 ghost use Rattle.replaying.specs.Lines.{finished as finishedTrace};
-ghost use Rattle.firmware.specs.Told.{meantOf, measuredOf, rowTo, version, saidTo, toldOf, heldOf, findingTo, standingTo, tallyIn, broughtOf, broughtTo, answersIn, pairTo, dayIn};
+ghost use Rattle.firmware.specs.Told.{meantOf, measuredOf, rowTo, version, saidTo, toldOf, heldOf, findingTo, standingTo, lineTo, tallyIn, broughtOf, broughtTo, answersIn, pairTo, dayIn};
 use answers::Answer;
 use ask::Found;
 use ask::Parameter;
@@ -36,6 +39,7 @@ use bridge::Standing;
 use contents::Listed;
 use feeding::Counts;
 use feeding::Tally;
+use hire::Line;
 use lookup::Next;
 use transport::Arrived;
 
@@ -241,6 +245,42 @@ fn pair_in_c(standing: Standing) -> Pair
         turned: counters.turned,
         refused: counters.refused,
         waiting: standing.waiting,
+    }
+}
+
+// What the report of a hire says of a position of a key; all 0 on a refusal.
+#[repr(C)]
+pub struct Counted {
+    pub told: Told,
+    pub read: u64,
+    pub valid: u64,
+    pub reserved: u64,
+    pub error: u64,
+    pub missing: u64,
+    pub least: u64,
+    pub greatest: u64,
+    pub sum: u64,
+    pub spn: u32,
+}
+
+// A line of the report, as C gets it.
+fn line_in_c(line: Line) -> Counted
+    ensures { λ r. ⌜ lineTo r ≡ linedIn line ⌝ }
+{
+    let answer = line.answer;
+    let told = in_c(answer);
+    let cell = line.cell;
+    Counted {
+        told,
+        read: cell.read,
+        valid: cell.valid,
+        reserved: cell.reserved,
+        error: cell.error,
+        missing: cell.missing,
+        least: cell.least,
+        greatest: cell.greatest,
+        sum: cell.sum,
+        spn: line.spn,
     }
 }
 
@@ -661,6 +701,47 @@ pub extern "C" fn yendrolf_table_finish(t: &[u64; lookup::WORDS], log: Log, text
     ensures { λ r. ⌜ outcome (saidTo r) (now (text .exit)) ≡ finished (now (t .entry)) (tallyIn log) (now (text .entry)) ⌝ }
 {
     in_c(listing::finish(t, tally_of(log), text))
+}
+
+// ---- the report of a hire
+
+// Nothing counted yet.
+#[no_mangle]
+pub extern "C" fn yendrolf_hire_fresh(acc: &mut [u64; tally::WORDS])
+    ensures { λ r. ⌜ now (acc .exit) ≡ emptyTally ⌝ }
+{
+    hire::fresh(acc)
+}
+
+// Takes the next chunk of a log, and counts the payloads that are read.
+#[no_mangle]
+pub extern "C" fn yendrolf_hire_feed(
+    t: &mut [u64; lookup::WORDS],
+    acc: &mut [u64; tally::WORDS],
+    limit: u32,
+    log: Log,
+    chunk: &[u8],
+) -> Log
+    ensures { λ r. ⌜ hired (now (t .exit)) (tallyIn r) (now (acc .exit))
+        ≡ hiring limit (now (t .entry)) (now (acc .entry)) (tallyIn log) (now (chunk .entry)) ⌝ }
+{
+    log_of(hire::feed(t, acc, limit, tally_of(log), chunk))
+}
+
+// What the report says of a position of a key.
+#[no_mangle]
+pub extern "C" fn yendrolf_hire_line(
+    t: &[u64; lookup::WORDS],
+    acc: &[u64; tally::WORDS],
+    limit: u32,
+    source: u8,
+    destination: u8,
+    k: u8,
+    position: u8,
+) -> Counted
+    ensures { λ r. ⌜ lineTo r ≡ lineIn limit (now (t .entry)) (now (acc .entry)) (keyOf source destination k) position ⌝ }
+{
+    line_in_c(hire::line_of(t, acc, limit, source, destination, k, position))
 }
 
 // ---- the filters

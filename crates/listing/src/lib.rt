@@ -65,7 +65,7 @@ fn put_keys(t: &[u64; WORDS], out: &mut [u8], at: usize) -> usize
 }
 
 // Lays the last line.
-fn put_last(out: &mut [u8], at: usize, c: Counts, left: usize) -> usize
+pub fn put_last(out: &mut [u8], at: usize, c: Counts, left: usize) -> usize
     ensures { λ r. ⌜ page r (now (out .exit)) ≡ putAll (page at (now (out .entry))) (lastLine c left) ⌝ }
 {
     let at = text::put_bytes(out, at, b"RECORDS ");

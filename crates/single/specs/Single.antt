@@ -1,0 +1,23 @@
+-- A parameter's number in a payload of eight bytes that is held as one number (01, "Payload bits"): payload bit p is then bit p of that number (law same-bits).
+-- Assumes nothing.
+use mathlib.Core.Bool.{Bool, cond, _&&_}
+use Prim.Native.Nat.{ℕ, _+_, _/_, _%_, _^_}
+use lib.Dec.{leb}
+use Rattle.places.specs.Place.{place, endOf}
+use Rattle.bits.specs.Bits.{bit, fromBits, liesIn}
+
+-- the n bits from `from` on, as a number
+abbrev pub runIn : ℕ → ℕ → ℕ → ℕ
+runIn word from n = word / 2 ^ from % 2 ^ n
+
+-- the number whose bit i is the bit at the place of bit i
+unfoldable pub numberOf : ℕ → ℕ → ℕ → ℕ
+numberOf word start width = fromBits (λ i. bit word (place start width i)) width
+
+-- whether it has a bit, 32 at most, and all of them in eight bytes
+abbrev pub liesThere : ℕ → ℕ → Bool
+liesThere start width = leb 1 width && leb width 32 && leb (endOf start width) 64
+
+-- the number, and 0 where it does not lie in eight bytes
+unfoldable pub cutFrom : ℕ → ℕ → ℕ → ℕ
+cutFrom word start width = cond (liesIn 8 start width) (numberOf word start width) 0

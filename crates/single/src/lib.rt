@@ -1,0 +1,73 @@
+// A payload of one frame: its eight bytes as one number, out of which a parameter's number is cut by a shift and a mask. What comes out is what `bits` reads from the bytes.
+ghost use mathlib.Core.Path.{_≡_};
+ghost use mathlib.Core.Bool.{true};
+ghost use Prim.Native.Nat.{_+_, _-_, _^_, _≤_, _<_};
+ghost use lib.ListN.{length};
+ghost use Rattle.places.specs.Place.{odd, endOf};
+ghost use Rattle.bits.specs.Bits.{runAt};
+ghost use Rattle.single.specs.Single.{runIn, numberOf, liesThere, cutFrom};
+
+// The bytes of a frame.
+const BYTES: usize = 8;
+
+// The eight bytes as one number, the first the lowest; that they are eight, as their type says, is handed on with it.
+pub fn word_of(bytes: &[u8; BYTES]) -> u64
+    ensures { λ r. ⌜ (r ≡ runAt (now (bytes .entry)) 0 64) × (length (now (bytes .entry)) ≡ 8) ⌝ }
+{
+    let bytes = &bytes[..];
+    let mut sum = 0;
+    let mut i = bytes.len();
+    while 0 < i {
+        i -= 1;
+        sum = sum * 256 + bytes[i] as u64;
+    }
+    sum
+}
+
+// A number of n ones.
+fn ones(n: u32) -> u64
+    requires { ⌜ n < 64 ⌝ }
+    ensures { λ r. ⌜ r ≡ 2 ^ n - 1 ⌝ }
+{
+    (1 << n) - 1
+}
+
+// The n bits of a number from `from` on, as a number.
+fn run_in(word: u64, from: u32, n: u32) -> u32
+    requires { ⌜ (from < 64) × (n ≤ 32) ⌝ }
+    ensures { λ r. ⌜ r ≡ runIn word from n ⌝ }
+{
+    ((word >> from) & ones(n)) as u32
+}
+
+// A number of an odd width: the run of its whole bytes, and above it that of the bits left over.
+fn cut_odd(word: u64, start: u32, width: u32) -> u32
+    requires { ⌜ (odd width ≡ true) × (width ≤ 32) × (endOf start width ≤ 64) ⌝ }
+    ensures { λ r. ⌜ r ≡ numberOf word start width ⌝ }
+{
+    let whole = width / 8 * 8;
+    let left = places::left_bit(start, width);
+    let low = run_in(word, start, whole);
+    let high = run_in(word, left as u32, width - whole);
+    low + (high << whole)
+}
+
+// Whether a parameter has a bit, 32 at most, and all of them in eight bytes.
+fn lies(start: u32, width: u32) -> bool
+    ensures { λ r. ⌜ r ≡ liesThere start width ⌝ }
+{
+    (1 <= width) & (width <= 32) & (places::end_bit(start, width) <= 64)
+}
+
+// The number of a parameter, out of the eight bytes as one number; 0 where it does not lie in them.
+pub fn number_in(word: u64, start: u32, width: u32) -> u32
+    ensures { λ r. ⌜ r ≡ cutFrom word start width ⌝ }
+{
+    if !lies(start, width) {
+        return 0;
+    }
+    if places::is_odd(width) {
+        return cut_odd(word, start, width);
+    }
+    run_in(word, start, width)
+}
