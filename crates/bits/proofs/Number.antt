@@ -1,6 +1,6 @@
 -- A parameter's number, laid at its places and read from them. Assumes nothing.
 use mathlib.Core.Path.{_≡_, refl, sym, ap, ap₂, _∙_}
-use mathlib.Core.Bool.{true, and-eq-true-iff}
+use mathlib.Core.Bool.{true, false, _&&_, and-eq-true-iff}
 use mathlib.Core.List.{List}
 use Prim.Native.Nat.{ℕ, _+_, _-_, _*_, _/_, _%_, _^_, _≤_, _<_}
 use native.Mathlib.Nat.{mod-eq-of-lt, lt-of-lt-of-le}
@@ -9,13 +9,13 @@ use borrow.Author.Tests.{le-leb, leb-true}
 use lib.Dec.{leb}
 use lib.ListN.{length, getD}
 use lib.Pow.{pow-mono}
-use Rattle.places.specs.Place.{skipped, place, endOf}
-use Rattle.places.proofs.Place.{whole, left, by-runs, low-run, left-run, one-run}
+use Rattle.places.specs.Place.{odd, skipped, place, endOf}
+use Rattle.places.proofs.Place.{whole, left, by-runs, low-run, left-run, one-run, end-runs, even-skips}
 use Rattle.bits.specs.Bits.{bit, bitAt, fromBits, bytesWith, bitAfter, liesIn, withNumber, readNumber, numberIn, runAt}
 use Rattle.bits.proofs.Bits.{bit-shr, bitAt-lt, from-lt, from-same, from-add, length-bytes, bytes-same, bytes-by-bits, bit-bytes}
 use Rattle.bits.proofs.After.{after-same, after-add}
 
--- ---- a parameter is one run, or two: what `lay` and `fetch` rest on
+-- ---- a parameter is one run, or two: what laying and fetching rest on
 
 pub laid-run : (s w v p b : ℕ) → skipped w ≡ 0 → bitAfter (λ i. s + i) (bit v) w p b ≡ bitAfter (place s w) (bit v) w p b
 laid-run s w v p b e = after-same (λ i. s + i) (bit v) (place s w) (bit v) w p b (λ i l. sym (one-run s w i e)) (λ i l. refl)
@@ -68,6 +68,11 @@ lies n s w e = let (a, b) = and-eq-true-iff (leb w 32) (leb (endOf s w) (8 * n))
 pub lies-in : (n s w : ℕ) → w ≤ 32 → endOf s w ≤ 8 * n → liesIn n s w ≡ true
 unfolding liesIn
 lies-in n s w l h = rw (le-leb w 32 l, le-leb (endOf s w) (8 * n) h)
+
+-- of a width that skips no bit: where its one run does
+pub even-lies : (n s w : ℕ) → odd w ≡ false → (leb w 32 && leb (s + w) (8 * n)) ≡ liesIn n s w
+unfolding liesIn
+even-lies n s w e = ap (λ (x : ℕ). leb w 32 && leb x (8 * n)) (omega (arith, end-runs s w, even-skips w e))
 
 -- ---- laid
 

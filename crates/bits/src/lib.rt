@@ -1,9 +1,9 @@
 // The bits of payload bytes (01, "Payload bits"): a parameter's number laid at its places, and read from them. This room knows bytes, and one start, width
 // and number at a time.
 ghost use mathlib.Core.Path.{_≡_};
-ghost use mathlib.Core.Bool.{cond, true};
+ghost use mathlib.Core.Bool.{cond, true, false, _&&_};
 ghost use Prim.Native.Nat.{ℕ, _+_, _-_, _*_, _/_, _%_, _^_, _≤_, _<_};
-ghost use lib.Dec.{eqb};
+ghost use lib.Dec.{eqb, leb};
 ghost use lib.ListN.{length};
 ghost use Rattle.places.specs.Place.{odd, place, endOf};
 ghost use Rattle.bits.specs.Bits.{bit, bitAt, bitAfter, liesIn, withNumber, readNumber, numberIn, runAt, masked};
@@ -55,6 +55,16 @@ fn touched(start: u64, n: u32) -> usize
     ((start % 8 + n as u64 + 7) / 8) as usize
 }
 
+// Whether a run of `width` payload bits has 32 bits at most and lies in n bytes.
+fn run_lies_in(n: usize, start: u64, width: u32) -> bool
+    ensures { λ r. ⌜ r ≡ (leb width 32 && leb (start + width) (8 * n)) ⌝ }
+{
+    if 32 < width {
+        return false;
+    }
+    (start / 8) as usize + touched(start, width) <= n
+}
+
 // Lays the low `width` bits of value at payload bit `start` on.
 fn put_run(out: &mut [u8], start: u64, width: u32, value: u32)
     requires { ⌜ (width ≤ 32) × (start + width ≤ 8 * length (now out)) ⌝ }
@@ -77,25 +87,35 @@ fn lay_odd(out: &mut [u8], start: u32, width: u32, value: u32)
     put_run(out, left, width - whole, value >> whole);
 }
 
-// Lays a number that lies in the bytes at its places.
-fn lay(out: &mut [u8], start: u32, width: u32, value: u32)
-    requires { ⌜ (width ≤ 32) × (endOf start width ≤ 8 * length (now out)) ⌝ }
-    ensures { λ _. ⌜ ((p : ℕ) → bitAt (now (out .exit)) p ≡ bitAfter (place start width) (bit value) width p (bitAt (now (out .entry)) p)) ⌝ }
+// Lays a number of an odd width, where it lies in the bytes.
+fn put_odd(out: &mut [u8], start: u32, width: u32, value: u32)
+    requires { ⌜ odd width ≡ true ⌝ }
+    ensures { λ _. ⌜ now (out .exit) ≡ withNumber (now (out .entry)) start width value ⌝ }
 {
-    if places::is_odd(width) {
+    if lies_in(out.len(), start, width) {
         lay_odd(out, start, width, value);
-        return;
     }
-    put_run(out, start as u64, width, value);
+}
+
+// Lays a number of any other width, which is one run, where it lies in the bytes.
+fn put_even(out: &mut [u8], start: u32, width: u32, value: u32)
+    requires { ⌜ odd width ≡ false ⌝ }
+    ensures { λ _. ⌜ now (out .exit) ≡ withNumber (now (out .entry)) start width value ⌝ }
+{
+    if run_lies_in(out.len(), start as u64, width) {
+        put_run(out, start as u64, width, value);
+    }
 }
 
 // Lays a parameter's number at its places; where it does not lie in the bytes, nothing is laid.
 pub fn put(out: &mut [u8], start: u32, width: u32, value: u32)
     ensures { λ _. ⌜ now (out .exit) ≡ withNumber (now (out .entry)) start width value ⌝ }
 {
-    if lies_in(out.len(), start, width) {
-        lay(out, start, width, value);
+    if places::is_odd(width) {
+        put_odd(out, start, width, value);
+        return;
     }
+    put_even(out, start, width, value);
 }
 
 // The number of the n bytes from byte k on, of which the first is the lowest.
@@ -133,23 +153,34 @@ fn fetch_odd(payload: &[u8], start: u32, width: u32) -> u32
     low + (high << whole)
 }
 
-// A number that lies in the payload, from its places.
-fn fetch(payload: &[u8], start: u32, width: u32) -> u32
-    requires { ⌜ (width ≤ 32) × (endOf start width ≤ 8 * length (now payload)) ⌝ }
-    ensures { λ r. ⌜ r ≡ readNumber (now (payload .entry)) start width ⌝ }
+// A number of an odd width, from its places; 0 where it does not lie in the payload.
+fn get_odd(payload: &[u8], start: u32, width: u32) -> u32
+    requires { ⌜ odd width ≡ true ⌝ }
+    ensures { λ r. ⌜ r ≡ numberIn (now (payload .entry)) start width ⌝ }
 {
-    if places::is_odd(width) {
+    if lies_in(payload.len(), start, width) {
         return fetch_odd(payload, start, width);
     }
-    get_run(payload, start as u64, width)
+    0
+}
+
+// A number of any other width, which is one run.
+fn get_even(payload: &[u8], start: u32, width: u32) -> u32
+    requires { ⌜ odd width ≡ false ⌝ }
+    ensures { λ r. ⌜ r ≡ numberIn (now (payload .entry)) start width ⌝ }
+{
+    if run_lies_in(payload.len(), start as u64, width) {
+        return get_run(payload, start as u64, width);
+    }
+    0
 }
 
 // A parameter's number, from its places; 0 where it does not lie in the payload.
 pub fn get(payload: &[u8], start: u32, width: u32) -> u32
     ensures { λ r. ⌜ r ≡ numberIn (now (payload .entry)) start width ⌝ }
 {
-    if lies_in(payload.len(), start, width) {
-        return fetch(payload, start, width);
+    if places::is_odd(width) {
+        return get_odd(payload, start, width);
     }
-    0
+    get_even(payload, start, width)
 }

@@ -16,7 +16,7 @@ pub fn is_odd(width: u32) -> bool
 pub fn skipped_bits(width: u32) -> u32
     ensures { λ r. ⌜ r ≡ skipped width ⌝ }
 {
-    if is_odd(width) { 8 - width % 8 } else { 0 }
+    if 8 < width { (8 - width % 8) % 8 } else { 0 }
 }
 
 // The payload bit after the last one of a parameter.
