@@ -11,7 +11,7 @@ use native.Mathlib.Nat.{min-eq-left, min-le-right}
 use native.Mathlib.Decide.{decLt}
 use native.Mathlib.Omega.{arith}
 use borrow.Author.Tests.{le-leb, lt-leb, lt-ltb, le-ltb}
-use Rattle.answers.specs.Answers.{Judged, Said, plain, judged}
+use Rattle.answers.specs.Answers.{Judged, Said, at, plain, judged}
 use Rattle.words.specs.Lists.{tabulate}
 use Rattle.words.proofs.Lists.{length-tabulate, get-tabulate, tabulate-equal}
 use Rattle.words.proofs.Tests.{test}
@@ -25,9 +25,9 @@ use Rattle.lookup.specs.Layout.{tableWords, rowOf, slotOf}
 use Rattle.lookup.proofs.Words.{row-length}
 use Rattle.open.specs.Open.{isHeld, judgedBy, mapAs, widthRow, widthFor, markedWidth, reach, listed, Opening, openedIn, openedBy}
 use Rattle.open.specs.declared.Opened.{Opened}
-use Rattle.answers.proofs.Cases.{same-answer}
+use Rattle.answers.proofs.Cases.{same-case, same-answer}
 use Rattle.open.specs.Unfolded.{unfolded, unfoldedIn}
-use Rattle.open.proofs.Unfolded.{row-held}
+use Rattle.open.proofs.Unfolded.{row-held, by-state}
 use Rattle.keyrow.specs.View.{headOf, rowMap, rowAs}
 use Rattle.lookup.specs.View.{mapIn, rowFor}
 
@@ -38,17 +38,18 @@ pub judge-held : (widthOf : ℕ → ℕ) (m : Map) → isHeld m ≡ true → jud
 unfolding judgedBy
 judge-held widthOf m h = rw h
 
-pub opened-row : (row spns₀ starts₀ widths₀ spns starts widths : List ℕ) (a : Said) (j : Judged) (n : ℕ) (p t : Bool) → a ≡ judged j → j ≡ judge (widthRow row) (rowMap row)
-    → n ≡ headOf (formWord row) .n → p ≡ headOf (formWord row) .proprietary → t ≡ headOf (formWord row) .transport
+pub opened-row : (row spns₀ starts₀ widths₀ spns starts widths : List ℕ) (a : Said) (w j : Judged) (n : ℕ) (p t : Bool) → a ≡ judged j → w ≡ judge (widthRow row) (rowAs row)
+    → j ≡ cond (eqb (stateWord row) 1) w (at 1 0) → n ≡ headOf (formWord row) .n → p ≡ headOf (formWord row) .proprietary → t ≡ headOf (formWord row) .transport
     → spns ≡ unfoldedIn spnIn row spns₀ → starts ≡ unfoldedIn startIn row starts₀ → widths ≡ unfoldedIn markedWidth row widths₀
-    → record { answer = a; n = n; proprietary = p; transport = t; spns = spns; starts = starts; widths = widths } ≡ openedBy (widthRow row) (rowMap row) (rowAs row) spns₀ starts₀ widths₀
+    → record { answer = a; was = w; n = n; proprietary = p; transport = t; spns = spns; starts = starts; widths = widths }
+    ≡ openedBy (widthRow row) (rowMap row) (rowAs row) spns₀ starts₀ widths₀
 unfolding openedBy unfolded
-opened-row row spns₀ starts₀ widths₀ spns starts widths a j n p t ea ej en ep et es ess ew =
-    let q : a ≡ judgedBy (widthRow row) (rowMap row) = ea ∙ ap judged ej ∙ judge-held (widthRow row) (rowMap row) (row-held row) in
-    λ i. record { answer = q i; n = en i; proprietary = ep i; transport = et i; spns = es i; starts = ess i; widths = ew i }
+opened-row row spns₀ starts₀ widths₀ spns starts widths a w j n p t ea e ej en ep et es ess ew =
+    let q : a ≡ judgedBy (widthRow row) (rowMap row) = ea ∙ ap judged (by-state row w j e ej) ∙ judge-held (widthRow row) (rowMap row) (row-held row) in
+    λ i. record { answer = q i; was = e i; n = en i; proprietary = ep i; transport = et i; spns = es i; starts = ess i; widths = ew i }
 
 pub opened-none : (widthOf : ℕ → ℕ) (m w : Map) (spns starts widths : List ℕ) (a : Said) → m ≡ Nothing → w ≡ Nothing → a ≡ plain 11
-    → record { answer = a; n = 0; proprietary = false; transport = false; spns = spns; starts = starts; widths = widths } ≡ openedBy widthOf m w spns starts widths
+    → record { answer = a; was = at 0 0; n = 0; proprietary = false; transport = false; spns = spns; starts = starts; widths = widths } ≡ openedBy widthOf m w spns starts widths
 unfolding openedBy judgedBy tabulate
 opened-none widthOf m w spns starts widths a em ew ea = rw (em, ew, ea)
 
@@ -143,7 +144,8 @@ module _ (widthOf : ℕ → ℕ) (m : Map) (few : countOf m ≤ positions) where
 pub same-opened : (o p : Opened) (a b c d e f : List ℕ) → openedIn o a b c ≡ openedIn p d e f → o ≡ p
 same-opened o p a b c d e f q =
     let x = same-answer (o .answer) (p .answer) (ap (λ (y : Opening). y .answer) q) in
-    λ i. record { answer = x i; n = q i .n; proprietary = q i .proprietary; transport = q i .transport }
+    let w = same-case (o .was) (p .was) (ap (λ (y : Opening). y .was) q) in
+    λ i. record { answer = x i; was = w i; n = q i .n; proprietary = q i .proprietary; transport = q i .transport }
 
 -- ---- what `open` gave
 
@@ -154,6 +156,11 @@ module _ (t : List ℕ) (k : Key) (o : Opening) (spns starts widths : List ℕ) 
   pub answer-is : o .answer ≡ judgedBy (widthFor t k) (mapIn t k)
   unfolding openedBy
   answer-is = ap (λ (x : Opening). x .answer) e
+
+  -- the judgement of what the key's row holds
+  pub was-is : o .was ≡ judge (widthFor t k) (mapAs t k)
+  unfolding openedBy
+  was-is = ap (λ (x : Opening). x .was) e
 
   -- the lists keep their lengths
   pub starts-long : length starts ≡ positions → length (o .starts) ≡ positions

@@ -11,19 +11,19 @@ use native.Mathlib.Nat.{add-zero, min-eq-left, min-eq-right, min-le-right}
 use native.Mathlib.Decide.{decLt}
 use native.Mathlib.Omega.{arith}
 use borrow.Author.Tests.{le-leb, lt-leb, ne-eqb}
-use Rattle.answers.specs.Answers.{Judged}
+use Rattle.answers.specs.Answers.{Judged, at as judgedAt}
 use Rattle.message.specs.declared.Place.{Place}
 use Rattle.words.specs.Lists.{tabulate}
 use Rattle.words.proofs.Lists.{in-range, length-tabulate, get-tabulate, tabulate-equal, write-more}
 use Rattle.dictionary.specs.Dictionary.{widthBy, widthsOver}
 use Rattle.dictionary.proofs.Table.{width-most}
 use Rattle.maps.specs.Maps.{Conflict, Held}
+use Rattle.words.proofs.Tests.{test}
 use Rattle.judge.specs.Judge.{Param, withWidth, spnIn, startIn, judgeOver, judge, mark, shortest, inSlices}
 use Rattle.judge.proofs.Within.{judged-same}
 use Rattle.judge.proofs.Slices.{slices-at, slices-past}
-use Rattle.keyrow.proofs.View.{row-held as map-held}
 use Rattle.keyrow.specs.Row.{positions, stateWord, formWord}
-use Rattle.keyrow.specs.View.{headOf, formEdition, placeOf, placeIn, rowMap, spnThere, startThere}
+use Rattle.keyrow.specs.View.{headOf, formEdition, placeOf, placeIn, rowMap, rowAs, spnThere, startThere}
 use Rattle.open.specs.Open.{isHeld, widthRow, markedWidth, reach}
 use Rattle.open.specs.Unfolded.{paramsIn, unfolded, unfoldedIn, markedAt, markedTo}
 
@@ -132,17 +132,21 @@ row-held row = go (eqb (stateWord row) 1)
     go true = refl
     go false = refl
 
--- so what the judge says of the lists is the judgement of the row's map
-pub row-judged : (row a b c spns starts widths : List ℕ) (n : ℕ) (transport : Bool) (j : Judged) → (length a ≡ positions) × (length b ≡ positions) × (length c ≡ positions) → stateWord row ≡ 1
+-- so what the judge says of the lists is the judgement of what the row holds
+pub row-judged : (row a b c spns starts widths : List ℕ) (n : ℕ) (transport : Bool) (j : Judged) → (length a ≡ positions) × (length b ≡ positions) × (length c ≡ positions)
     → n ≡ headOf (formWord row) .n → transport ≡ headOf (formWord row) .transport
     → spns ≡ unfoldedIn spnIn row a → starts ≡ unfoldedIn startIn row b → widths ≡ unfoldedIn markedWidth row c
-    → j ≡ judgeOver n transport (inSlices spns starts widths) → j ≡ judge (widthRow row) (rowMap row)
-row-judged row a b c spns starts widths n transport j long held en et es ess ew e =
+    → j ≡ judgeOver n transport (inSlices spns starts widths) → j ≡ judge (widthRow row) (rowAs row)
+row-judged row a b c spns starts widths n transport j long en et es ess ew e =
     let h = headOf (formWord row) in
     e
     ∙ (λ k. judgeOver (en k) (et k) (inSlices (es k) (ess k) (ew k)))
     ∙ judged-same (h .n) _ (paramsIn row) (slices-are row a b c (h .n) long) (h .transport)
-    ∙ sym (ap (judge (widthRow row)) (map-held row held))
+
+-- and the judgement of its map, by its state
+pub by-state : (row : List ℕ) (w j : Judged) → w ≡ judge (widthRow row) (rowAs row) → j ≡ cond (eqb (stateWord row) 1) w (judgedAt 1 0) → j ≡ judge (widthRow row) (rowMap row)
+unfolding rowMap
+by-state row w j e q = q ∙ test (eqb (stateWord row) 1) (λ t. rw t e) (λ f. rw f)
 
 -- ---- the widths
 

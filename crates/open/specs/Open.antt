@@ -8,7 +8,7 @@ use mathlib.Core.List.{List, _++_}
 use lib.Dec.{ltb}
 use lib.ListN.{drop}
 use Rattle.words.specs.Lists.{tabulate}
-use Rattle.answers.specs.Answers.{Said, inNumbers, plain, judged}
+use Rattle.answers.specs.Answers.{Judged, Said, saidOf, inNumbers, plain, judged}
 use Rattle.message.specs.declared.Key.{Key}
 use Rattle.dictionary.specs.Dictionary.{widthBy}
 use Rattle.maps.specs.Maps.{Map, Nothing, Conflict, Held}
@@ -66,6 +66,7 @@ listed f widthOf m held = tabulate (λ i. f (paramsOf widthOf m (suc i))) (reach
 -- what opening a key's map gives, with the three lists that are lent to it
 pub record Opening : Type 0 where
   pub answer : Said
+  pub was : Judged
   pub n : ℕ
   pub proprietary : Bool
   pub transport : Bool
@@ -77,6 +78,7 @@ pub record Opening : Type 0 where
 abbrev pub openedIn : Opened → List ℕ → List ℕ → List ℕ → Opening
 openedIn o spns starts widths = record {
   answer = inNumbers (o .answer);
+  was = saidOf (o .was);
   n = o .n;
   proprietary = o .proprietary;
   transport = o .transport;
@@ -85,10 +87,11 @@ openedIn o spns starts widths = record {
   widths = widths;
 }
 
--- judging's own answer by the map `m`; n, flags and lists by the map `a`. Where the key is not held, nothing is laid
+-- judging's own answer by the map `m`; its judgement, n, flags and lists by the map `a`. Where the key is not held, nothing is laid
 unfoldable pub openedBy : (ℕ → ℕ) → Map → Map → List ℕ → List ℕ → List ℕ → Opening
 openedBy widthOf m a spns starts widths = record {
   answer = judgedBy widthOf m;
+  was = judge widthOf a;
   n = countOf a;
   proprietary = proprietaryOf a;
   transport = transportOf a;

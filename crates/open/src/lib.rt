@@ -5,7 +5,7 @@ ghost use mathlib.Core.Bool.{cond};
 ghost use Prim.Native.Nat.{_≤_};
 ghost use lib.Dec.{eqb};
 ghost use lib.ListN.{length};
-ghost use Rattle.answers.specs.Answers.{saidOf};
+ghost use Rattle.answers.specs.Answers.{saidOf, at};
 ghost use Rattle.judge.specs.Judge.{spnIn, startIn, mark, judge as judgementOf};
 ghost use Rattle.keyrow.specs.Row.{rowWords, positions, keyOf};
 ghost use Rattle.keyrow.specs.View.{rowMap, rowAs};
@@ -21,9 +21,11 @@ use keyrow::STATE;
 use lookup::WORDS;
 ghost use Rattle.lookup.specs.View.{mapIn};
 
-// What opening a key's map gives: 11, or 0 with the judgement; n and the flags, all 0 where the key is not held.
+// What opening a key's map gives: 11, or 0 with the judgement; the judgement of what its row holds, which of a key in conflict is that of the map before the contradiction; n and the flags, all 0 where the
+// key is not held.
 pub struct Opened {
     pub answer: Answer,
+    pub was: Judgement,
     pub n: u8,
     pub proprietary: bool,
     pub transport: bool,
@@ -92,19 +94,26 @@ fn unfold_row(row: &[u64], n: usize, spns: &mut [u32], starts: &mut [u32], width
     mark_missing(row, n, widths);
 }
 
-// Unfolds a row as far as its n asks, and judges its map. A position past the 64 is missing.
+// Unfolds a row as far as its n asks, and judges what it holds, in conflict or not. A position past the 64 is missing.
 fn judge_row(row: &[u64], spns: &mut [u32], starts: &mut [u32], widths: &mut [u32]) -> Judgement
     requires { ⌜ (length (now row) ≡ rowWords) × (length (now spns) ≡ positions) × (length (now starts) ≡ positions) × (length (now widths) ≡ positions) ⌝ }
-    ensures { λ r. ⌜ (saidOf r ≡ judgementOf (widthRow (now (row .entry))) (rowMap (now (row .entry)))) × (now (spns .exit) ≡ unfoldedIn spnIn (now (row .entry)) (now (spns .entry)))
+    ensures { λ r. ⌜ (saidOf r ≡ judgementOf (widthRow (now (row .entry))) (rowAs (now (row .entry)))) × (now (spns .exit) ≡ unfoldedIn spnIn (now (row .entry)) (now (spns .entry)))
         × (now (starts .exit) ≡ unfoldedIn startIn (now (row .entry)) (now (starts .entry)))
         × (now (widths .exit) ≡ unfoldedIn markedWidth (now (row .entry)) (now (widths .entry))) ⌝ }
 {
     let head = keyrow::head_of(row[FORM]);
     unfold_row(row, reach_of(head.n), spns, starts, widths);
-    if row[STATE] != HELD { // in conflict, whatever the cells say
+    judge::judge(head.n, head.transport, spns, starts, widths)
+}
+
+// The judgement of a row's map: in conflict, whatever the cells say, or that of what it holds.
+fn judgement_of(state: u64, was: Judgement) -> Judgement
+    ensures { λ r. ⌜ saidOf r ≡ cond (eqb state 1) (saidOf was) (at 1 0) ⌝ }
+{
+    if state != HELD {
         return Judgement::Conflict;
     }
-    judge::judge(head.n, head.transport, spns, starts, widths)
+    was
 }
 
 // Opens the map of a row.
@@ -113,11 +122,12 @@ fn open_row(row: &[u64], spns: &mut [u32], starts: &mut [u32], widths: &mut [u32
     ensures { λ r. ⌜ openedIn r (now (spns .exit)) (now (starts .exit)) (now (widths .exit))
         ≡ openedBy (widthRow (now (row .entry))) (rowMap (now (row .entry))) (rowAs (now (row .entry))) (now (spns .entry)) (now (starts .entry)) (now (widths .entry)) ⌝ }
 {
-    let judgement = judge_row(row, spns, starts, widths);
+    let was = judge_row(row, spns, starts, widths);
     let head = keyrow::head_of(row[FORM]);
-    let answer = answers::judgement_is(judgement);
+    let answer = answers::judgement_is(judgement_of(row[STATE], was));
     Opened {
         answer,
+        was,
         n: head.n,
         proprietary: head.proprietary,
         transport: head.transport,
@@ -147,6 +157,7 @@ pub fn open(
         let answer = answers::plainly(11);
         return Opened {
             answer,
+            was: Judgement::Usable,
             n: 0,
             proprietary: false,
             transport: false,

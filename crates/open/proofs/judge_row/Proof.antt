@@ -1,14 +1,13 @@
--- `judge_row`: a row in conflict, or the judge's own promise of the lists that the row unfolds to. Assumes nothing.
+-- `judge_row`: the judge's own promise of the lists that the row unfolds to. Assumes nothing.
 use Prim.Native.Nat.{ℕ}
-use mathlib.Core.Path.{_≡_, sym, ap, _∙_}
+use mathlib.Core.Path.{_≡_, ap, _∙_}
 use denote.Ref.{now}
 use borrow.Author.Needs.{needs}
 use Rattle.message.specs.declared.Head.{Head}
-use Rattle.judge.specs.Judge.{spnIn, startIn, judge}
+use Rattle.judge.specs.Judge.{spnIn, startIn}
 use Rattle.keyrow.specs.Row.{formWord}
 use Rattle.keyrow.specs.View.{headOf}
-use Rattle.keyrow.proofs.View.{row-conflict}
-use Rattle.open.specs.Open.{widthRow, markedWidth, reach}
+use Rattle.open.specs.Open.{markedWidth, reach}
 use Rattle.open.specs.Unfolded.{unfolded}
 use Rattle.open.proofs.Unfolded.{row-judged}
 use Rattle.open.proofs.judge_row.Statement.{statement}
@@ -20,21 +19,7 @@ far c = c .reach-of .ensures .0 ∙ ap (λ (h : Head). reach (h .n)) (c .before 
 
 returns : tie.Need-returns
 returns c =
-    let u = c .before .before .before .before .before .before .before .before in
-    let q = u .before .before .before .before in
-    let a = q .before .before .before .before .before .before .before .args in
-    let row = now (a .row) in
-    let e = u .unfold-row .ensures in (
-      sym (ap (judge (widthRow row)) (row-conflict row (c .if1 .taken))),
-      e .0 ∙ ap (λ (k : ℕ). unfolded spnIn row k (now (a .spns))) (far q),
-      e .1 ∙ ap (λ (k : ℕ). unfolded startIn row k (now (a .starts))) (far q),
-      e .2 ∙ ap (λ (k : ℕ). unfolded markedWidth row k (now (a .widths))) (far q),
-    )
-
-returns-2 : tie.Need-returns-2
-returns-2 c =
-    let d = c .before .before .before .before in
-    let u = d .before .before .before .before .before .before .before .before in
+    let u = c .before .before .before .before .before .before .before .before .before .before in
     let q = u .before .before .before .before in
     let start = q .before .before .before .before .before .before .before in
     let a = start .args in
@@ -43,8 +28,8 @@ returns-2 c =
     let spns = e .0 ∙ ap (λ (k : ℕ). unfolded spnIn row k (now (a .spns))) (far q) in
     let starts = e .1 ∙ ap (λ (k : ℕ). unfolded startIn row k (now (a .starts))) (far q) in
     let widths = e .2 ∙ ap (λ (k : ℕ). unfolded markedWidth row k (now (a .widths))) (far q) in (
-      row-judged row (now (a .spns)) (now (a .starts)) (now (a .widths)) _ _ _ _ _ _ (start .pre .1, start .pre .2, start .pre .3) (d .if1 .left)
-          (ap (λ (h : Head). h .n) (q .before .head-of .ensures)) (ap (λ (h : Head). h .transport) (q .before .head-of .ensures)) spns starts widths (c .judge .ensures),
+      row-judged row (now (a .spns)) (now (a .starts)) (now (a .widths)) _ _ _ _ _ _ (start .pre .1, start .pre .2, start .pre .3) (ap (λ (h : Head). h .n) (q .before .head-of .ensures))
+          (ap (λ (h : Head). h .transport) (q .before .head-of .ensures)) spns starts widths (c .judge .ensures),
       spns,
       starts,
       widths,
@@ -53,5 +38,4 @@ returns-2 c =
 pub judge-row-spec : {M : Type 1} → statement M
 judge-row-spec =
     tie.close
-    (tie.spec (λ c. search needs) (λ c κs. search needs) (λ c κs. search needs) (λ c κs. search needs) (λ c. search needs) (λ c. search needs)
-    (λ c. search needs) (λ c. search needs) returns (λ c κs. search needs) (λ c. search needs) (λ c. search needs) (λ c. search needs) returns-2)
+    (tie.spec (λ c. search needs) (λ c κs. search needs) (λ c κs. search needs) (λ c κs. search needs) (λ c κs. search needs) (λ c. search needs) (λ c. search needs) (λ c. search needs) returns)
