@@ -1,21 +1,20 @@
 -- Records laid into a log: a part that was lent from a byte on and came back, one record behind another, and the test of the room. Assumes nothing.
 use Prim.Native.Nat.{ℕ, _+_, _-_, _*_, _/_, _≤_, _<_}
-use native.Mathlib.Nat.{add-zero, zero-add, add-assoc}
+use native.Mathlib.Nat.{zero-add}
 use native.Mathlib.Omega.{arith}
 use mathlib.Core.Path.{_≡_, refl, sym, ap, _∙_}
 use mathlib.Core.Bool.{true, false, cond}
-use mathlib.Core.List.{List, [], _∷_, _++_, flatten, append-assoc, append-nil}
+use mathlib.Core.List.{List, [], _∷_, _++_, append-nil}
 use borrow.Author.Tests.{eq-eqb, ne-eqb, leb-true, le-leb, lt-leb, ltb-true, ltb-false, lt-ltb}
 use lib.Dec.{leb, ltb}
-use lib.ListN.{length, take, drop, length-append, length-take, length-drop, drop-of-length-le, take-append-drop}
-use lib.Seq.{take-all, take-at, drop-drop, drop-append-add}
+use lib.ListN.{length, take, drop, length-drop, drop-of-length-le, take-append-drop}
+use lib.Seq.{take-all, drop-drop}
 use Rattle.words.proofs.Tests.{test, same-test}
 use Rattle.answers.specs.Answers.{Said, plain, done, Outcome, outcome}
-use Rattle.splice.specs.Splice.{splice, fits, laid}
-use Rattle.splice.proofs.Laws.{length-splice}
+use Rattle.splice.specs.Splice.{fits, laid}
 use Rattle.text.specs.Text.{Page, page, put, putAll}
 use Rattle.text.proofs.Pages.{put-there, put-not}
-use Rattle.text.proofs.Pieces.{one-piece}
+use Rattle.text.proofs.Pieces.{one-piece, pieces-laid}
 use Rattle.message.specs.declared.Key.{Key}
 use Rattle.message.specs.declared.Message.{Message}
 use Rattle.record.specs.Record.{written}
@@ -94,9 +93,6 @@ pub nothing-laid : (p : Page) → p ≡ putAll p []
 unfolding putAll
 nothing-laid p = refl
 
-pub splice-none : (l : List ℕ) (at : ℕ) → splice l at [] ≡ l
-splice-none l at = rw add-zero (take-append-drop at l)
-
 -- what put_told lays: nothing for the position 0, else the record of the message
 module _ (widthOf : ℕ → ℕ) (t : List ℕ) (spn : ℕ) (k : Key) (position : ℕ) where
   pub none-told-of : (p : Page) → position ≡ 0 → p ≡ putAll p (pieceAt widthOf t spn k position)
@@ -106,32 +102,6 @@ module _ (widthOf : ℕ → ℕ) (t : List ℕ) (spn : ℕ) (k : Key) (position 
       → r ≡ putAll (page at l) (pieceAt widthOf t spn k position)
   told-of l at n m e r q =
       one-piece l at (recordOf m) r q ∙ ap (λ (x : Message). putAll (page at l) (recordOf x ∷ [])) e ∙ rw (ne-eqb position 0 n)
-
--- what is laid right behind what was laid: one laying of both
-pub splice-next : (l : List ℕ) (at : ℕ) (x y : List ℕ) → at + length x + length y ≤ length l
-    → splice (splice l at x) (at + length x) y ≡ splice l at (x ++ y)
-splice-next l at x y h =
-    let p = take at l ++ x in
-    let n : length p ≡ at + length x = simp (length-append, length-take) (omega arith) in
-    let s : splice l at x ≡ p ++ drop (at + length x) l = sym (append-assoc (take at l) x _) in
-    rw (s, take-at p (drop (at + length x) l) (at + length x) n)
-    (let d : drop (at + length x + length y) (p ++ drop (at + length x) l) ≡ drop (at + (length x + length y)) l =
-    rw (← n, drop-append-add p (drop (length p) l) (length y), drop-drop (length y) (length p) l, n, add-assoc) refl in
-    rw (d, append-assoc (take at l) x _, length-append x y, append-assoc x y _))
-
--- pieces that all have room
-pub all-laid : (xs : List (List ℕ)) (l : List ℕ) (at : ℕ) → at + length (flatten xs) ≤ length l → putAll (page at l) xs .bytes ≡ splice l at (flatten xs)
-unfolding putAll flatten
-all-laid [] l at h = sym (splice-none l at)
-all-laid (x ∷ xs) l at h =
-    let n = length-append x (flatten xs) in
-    let r : at + length x ≤ length l = omega (arith, h, n) in
-    ap (λ (p : Page). putAll p xs .bytes) (sym (there r))
-    ∙ all-laid xs (splice l at x) (at + length x) (rw (length-splice l at x r) (omega (arith, h, n)))
-    ∙ splice-next l at x (flatten xs) (omega (arith, h, n))
-  where
-    there : at + length x ≤ length l → page (at + length x) (splice l at x) ≡ put l at x
-    there r = put-there l at x (splice l at x) (le-leb (at + length x) (length l) r) (rw (le-leb (at + length x) (length l) r))
 
 -- ---- room for so many records, without a number that could be too large
 
@@ -158,7 +128,7 @@ module _ (ms : List Message) (l : List ℕ) (start count : ℕ) (its : count ≡
   in-room f e p g =
       let q : ltb (length l) (start + 13 * length ms) ≡ false = rw its at f in
       let r : start + length (logOf ms) ≤ length l = omega (arith, ltb-false (length l) (start + 13 * length ms) q, log-long ms) in
-      rw (q, e, its) (ap (λ (b : List ℕ). outcome (done (length ms)) b) (ap (λ (x : Page). x .bytes) g ∙ all-laid (piecesOf ms) l start r))
+      rw (q, e, its) (ap (λ (b : List ℕ). outcome (done (length ms)) b) (ap (λ (x : Page). x .bytes) (g ∙ pieces-laid (piecesOf ms) start l r)))
 
 -- to a request that is not ours
 pub no-message : (l : List ℕ) (start : ℕ) (a : Said) → a ≡ cond (ltb (length l) start) (plain 13) (done 0) → outcome a l ≡ laidOut [] l start

@@ -18,6 +18,7 @@ use Rattle.frame.specs.Frame.{fieldsOf, destinationOf}
 use Rattle.message.specs.declared.Key.{Key}
 use Rattle.message.specs.declared.Message.{Message}
 use Rattle.splice.specs.Splice.{splice}
+use Rattle.text.proofs.Pieces.{splice-none}
 use Rattle.maps.proofs.Tests.{key-refl}
 use Rattle.history.proofs.Keys.{has}
 use Rattle.keyrow.specs.Row.{InBytes}
@@ -26,7 +27,6 @@ use Rattle.written.specs.Written.{recordOf, logOf}
 use Rattle.written.proofs.Records.{log-long, log-more}
 use Rattle.locate.specs.Locate.{requestTests, spnAsked, isOurs, tells, placement, locatedKeys, answersTo, roomTests, layDone, locatedBy}
 use Rattle.locate.proofs.Keys.{exactly, of-bytes}
-use Rattle.locate.proofs.Laid.{splice-none}
 
 -- ---- bytes laid from a byte on
 

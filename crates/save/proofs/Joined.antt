@@ -1,20 +1,18 @@
 -- The pieces joined are the image, and laid into a buffer that has room for them they are the image laid over its start. Assumes nothing.
 use Prim.Native.Nat.{ℕ, zero, suc, _+_, _≤_, _<_}
-use native.Mathlib.Nat.{add-zero, add-assoc}
 use native.Mathlib.Omega.{arith}
 use mathlib.Core.Path.{_≡_, refl, sym, ap, _∙_}
 use mathlib.Core.Option.{Option}
-use mathlib.Core.List.{List, [], _∷_, _++_, flatten, append-assoc}
-use borrow.Author.Tests.{le-leb, lt-ltb, le-ltb}
+use mathlib.Core.List.{List, [], _∷_, flatten}
+use borrow.Author.Tests.{lt-ltb, le-ltb}
 use lib.Dec.{ltb}
-use lib.ListN.{length, take, drop, length-append, length-take, take-append-drop}
-use lib.Seq.{take-at, drop-append-add, drop-drop}
+use lib.ListN.{length, length-append}
 use Rattle.answers.specs.Answers.{Said, outcome, plain}
 use Rattle.answers.specs.Tests.{_when_, tested}
 use Rattle.splice.specs.Splice.{splice, laid}
-use Rattle.splice.proofs.Laws.{length-splice, lay-no, laid-is}
+use Rattle.splice.proofs.Laws.{lay-no, laid-is}
 use Rattle.text.specs.Text.{Page, page, put, putAll}
-use Rattle.text.proofs.Pieces.{put-more, flat-more}
+use Rattle.text.proofs.Pieces.{put-more, flat-more, pieces-laid}
 use Rattle.message.specs.declared.Key.{Key}
 use Rattle.message.specs.declared.Head.{Head}
 use Rattle.message.specs.declared.Place.{Place}
@@ -71,35 +69,11 @@ size-is form t c n m e f g = (λ i. (f ∙ ap (behind form) e) i + g i) ∙ sym 
 
 -- ---- laid one after another
 
--- what is laid right behind what was laid: one laying of both
-splice-next : (l : List ℕ) (at : ℕ) (x y : List ℕ) → at + length x + length y ≤ length l → splice (splice l at x) (at + length x) y ≡ splice l at (x ++ y)
-splice-next l at x y h =
-    let p = take at l ++ x in
-    let n : length p ≡ at + length x = simp (length-append, length-take) (omega arith) in
-    let s : splice l at x ≡ p ++ drop (at + length x) l = sym (append-assoc (take at l) x _) in
-    rw (s, take-at p (drop (at + length x) l) (at + length x) n)
-    (let d : drop (at + length x + length y) (p ++ drop (at + length x) l) ≡ drop (at + (length x + length y)) l =
-    rw (← n, drop-append-add p (drop (length p) l) (length y), drop-drop (length y) (length p) l, n, add-assoc) refl in
-    rw (d, append-assoc (take at l) x _, length-append x y, append-assoc x y _))
-
--- pieces in a buffer that has room for them
-in-room : (xs : List (List ℕ)) (at : ℕ) (l : List ℕ) → at + length (flatten xs) ≤ length l → putAll (page at l) xs ≡ page (at + length (flatten xs)) (splice l at (flatten xs))
-unfolding putAll put flatten
-in-room [] at l room = let e : at + 0 ≡ at = add-zero at in rw e (ap (page at) (sym (take-append-drop at l)))
-in-room (x ∷ xs) at l room =
-    let r : at + length x + length (flatten xs) ≤ length l = omega (arith, length-append x (flatten xs)) in
-    rw (le-leb (at + length x) (length l) (omega arith))
-    (in-room xs (at + length x) (splice l at x) (omega (arith, length-splice l at x (omega arith)))
-    ∙ (λ i. page (both i) (splice-next l at x (flatten xs) r i)))
-  where
-    both : at + length x + length (flatten xs) ≡ at + length (x ++ flatten xs)
-    both = omega (arith, length-append x (flatten xs))
-
 -- from the start of a buffer that has room, by any list
 laid-all : (xs : List (List ℕ)) (x out later : List ℕ) (r : ℕ) → flatten xs ≡ x → length x ≤ length out → page r later ≡ putAll (page 0 out) xs → (r ≡ length x) × (later ≡ laid out 0 x)
 laid-all xs x out later r f room e =
     let z : 0 + length (flatten xs) ≡ length x = omega (arith, ap length f) in
-    let q = e ∙ in-room xs 0 out (omega arith) in
+    let q = e ∙ pieces-laid xs 0 out (omega arith) in
     (ap (λ (p : Page). p .at) q ∙ z, ap (λ (p : Page). p .bytes) q ∙ ap (splice out 0) f ∙ laid-is out 0 x (omega arith) .1)
 
 -- what saving answers, by any list
