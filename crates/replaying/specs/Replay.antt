@@ -1,6 +1,6 @@
 -- What a trace is replayed as, from the trace alone: no words, no chunk. Assumes nothing.
 use Prim.Native.Nat.{ℕ, _+_, _%_, _^_}
-use mathlib.Core.Bool.{Bool, true, false, not, cond}
+use mathlib.Core.Bool.{Bool, false, not, cond}
 use mathlib.Core.List.{List, [], _∷_, _++_, flatten}
 use lib.Dec.{eqb}
 use lib.ListN.{length}
@@ -44,37 +44,26 @@ eventsOf es = happened freshWords (callsOf es)
 
 -- ---- counts
 
+-- the kind of an entry: 0 a frame, 1 a slot, 2 a command of the fitter, 3 none of these
+abbrev pub kindOf : Entry → ℕ
+kindOf (Frame port id) = 0
+kindOf (Slot port) = 1
+kindOf (Add from to pgn) = 2
+kindOf (Delete from to pgn) = 2
+kindOf (Renew from to mode) = 2
+kindOf Other = 3
+
 abbrev pub isFrame : Entry → Bool
-isFrame (Frame port id) = true
-isFrame (Slot port) = false
-isFrame (Add from to pgn) = false
-isFrame (Delete from to pgn) = false
-isFrame (Renew from to mode) = false
-isFrame Other = false
+isFrame e = eqb (kindOf e) 0
 
 abbrev pub isSlot : Entry → Bool
-isSlot (Frame port id) = false
-isSlot (Slot port) = true
-isSlot (Add from to pgn) = false
-isSlot (Delete from to pgn) = false
-isSlot (Renew from to mode) = false
-isSlot Other = false
+isSlot e = eqb (kindOf e) 1
 
 abbrev pub isCommand : Entry → Bool
-isCommand (Frame port id) = false
-isCommand (Slot port) = false
-isCommand (Add from to pgn) = true
-isCommand (Delete from to pgn) = true
-isCommand (Renew from to mode) = true
-isCommand Other = false
+isCommand e = eqb (kindOf e) 2
 
 abbrev pub isOther : Entry → Bool
-isOther (Frame port id) = false
-isOther (Slot port) = false
-isOther (Add from to pgn) = false
-isOther (Delete from to pgn) = false
-isOther (Renew from to mode) = false
-isOther Other = true
+isOther e = eqb (kindOf e) 3
 
 abbrev pub howOften : (Entry → Bool) → List Entry → ℕ
 howOften p es = length (only p es)
