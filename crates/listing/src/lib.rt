@@ -94,8 +94,5 @@ pub fn finish(t: &[u64; WORDS], s: Tally, out: &mut [u8]) -> Answer
 {
     let mut page = [0u8; PAGE];
     let n = put_listing(t, s, &mut page);
-    if splice::copy_at(out, 0, &page[..n]) {
-        return answers::with_detail(0, n as u32);
-    }
-    answers::plainly(13)
+    text::hand_out(out, &page[..n])
 }

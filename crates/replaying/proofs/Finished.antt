@@ -1,15 +1,13 @@
--- A page of 2,304 bytes holds the whole text, and what is copied from it is the text. Assumes nothing.
+-- A page of 2,304 bytes holds the whole text, and what is handed out of it is the text. Assumes nothing.
 use Prim.Native.Nat.{ℕ}
+use native.Mathlib.Omega.{arith}
 use mathlib.Core.Path.{_≡_, ap, _∙_}
-use mathlib.Core.Bool.{Bool, cond}
 use mathlib.Core.List.{List}
 use lib.ListN.{length, take}
-use Rattle.answers.specs.Answers.{Said, outcome, plain, done}
-use Rattle.splice.specs.Splice.{fits, laid}
-use Rattle.text.specs.Text.{Page, page, putAll}
+use Rattle.text.specs.Text.{Page, page, putAll, handed}
 use Rattle.text.proofs.Pages.{Holds}
 use Rattle.text.proofs.Pieces.{holds-pieces}
-use Rattle.words.proofs.Tests.{test}
+use Rattle.text.proofs.Handed.{handed-page}
 use Rattle.bridge.specs.Bridge.{Bridge, Stands}
 use Rattle.replaying.specs.declared.Counts.{Counts}
 use Rattle.replaying.specs.declared.Tally.{Tally}
@@ -19,12 +17,10 @@ use Rattle.replaying.proofs.Widths.{enough}
 pub filled : (b : Bridge) (s : Tally) (l : List ℕ) (p : Page) → length l ≡ 2304 → p ≡ putAll (page 0 l) (piecesOf b s) → Holds 2304 p (pageOf b s)
 filled b s l p long e = holds-pieces 2304 (piecesOf b s) l p long (enough b s) e
 
--- its first bytes, laid over a buffer
-pub finish-is : (b : Bridge) (s : Tally) (out after : List ℕ) (p : Page) (t : Bool) (a : Said) → Holds 2304 p (pageOf b s)
-    → t ≡ fits out 0 (take (p .at) (p .bytes)) → after ≡ laid out 0 (take (p .at) (p .bytes)) → a ≡ cond t (done (p .at)) (plain 13) → outcome a after ≡ finished b s out
+-- its first bytes, handed out
+pub finish-is : (b : Bridge) (s : Tally) (out : List ℕ) (p : Page) → Holds 2304 p (pageOf b s) → handed out (take (p .at) (p .bytes)) ≡ finished b s out
 unfolding finished
-finish-is b s out after p t a h e f g =
-    rw (g, f, e, h .text-is, h .next) (test (fits out 0 (pageOf b s)) (λ y. rw y) (λ n. rw n))
+finish-is b s out p h = handed-page 2304 p (pageOf b s) h (omega arith) out
 
 -- the last line, by an equal number of bytes left
 pub ending : (p r : Page) (k : Counts) (n m : ℕ) → n ≡ m → r ≡ putAll p (lastLine k n) → r ≡ putAll p (lastLine k m)

@@ -1,4 +1,5 @@
 pub mod Decimal
+pub mod Handed
 pub mod Lengths
 pub mod Pages
 pub mod Pieces

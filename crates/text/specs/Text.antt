@@ -6,6 +6,7 @@ use mathlib.Core.Bool.{cond}
 use mathlib.Core.List.{List, [], _∷_, _++_}
 use lib.Dec.{ltb}
 use lib.ListN.{length}
+use Rattle.answers.specs.Answers.{Outcome, outcome, plain, done}
 use Rattle.splice.specs.Splice.{fits, splice}
 
 -- ---- pieces
@@ -46,3 +47,9 @@ put l at x = cond (fits l at x) (page (at + length x) (splice l at x)) (page at 
 unfoldable pub putAll : Page → List (List ℕ) → Page
 putAll p [] = p
 putAll p (x ∷ xs) = putAll (put (p .bytes) (p .at) x) xs
+
+-- ---- handed out
+
+-- a whole text laid over the start of a buffer: 0 with its length, modulo 2^32; or 13, and nothing written, where the buffer is too short
+unfoldable pub handed : List ℕ → List ℕ → Outcome
+handed out text = cond (fits out 0 text) (outcome (done (length text % 4294967296)) (splice out 0 text)) (outcome (plain 13) out)

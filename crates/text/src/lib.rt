@@ -1,9 +1,12 @@
-// Text in a lent page, one piece after another: bytes as they are, and numbers in decimal (01, "The listing program": "All numbers are decimal").
+// Text in a lent page, one piece after another: bytes as they are, and numbers in decimal (01, "The listing program": "All numbers are decimal"). A text that is whole is handed out
+// at once.
 ghost use mathlib.Core.Path.{_≡_};
 ghost use mathlib.Core.List.{[], _∷_};
 ghost use Prim.Native.Nat.{_≤_};
 ghost use lib.ListN.{drop};
-ghost use Rattle.text.specs.Text.{decimalOf, page, put, putAll};
+ghost use Rattle.answers.specs.Answers.{outcome, inNumbers};
+ghost use Rattle.text.specs.Text.{decimalOf, page, put, putAll, handed};
+use answers::Answer;
 
 // The digits of a number: the bytes from `from` on.
 struct Digits {
@@ -54,4 +57,14 @@ pub fn put_number(out: &mut [u8], at: usize, n: u64, behind: &[u8]) -> usize
 {
     let at = put_decimal(out, at, n);
     put_bytes(out, at, behind)
+}
+
+// Lays a whole text over the start of `out`: 0 with its length, modulo 2^32, or 13 and nothing written where `out` is too short.
+pub fn hand_out(out: &mut [u8], text: &[u8]) -> Answer
+    ensures { λ r. ⌜ outcome (inNumbers r) (now (out .exit)) ≡ handed (now (out .entry)) (now (text .entry)) ⌝ }
+{
+    if splice::copy_at(out, 0, text) {
+        return answers::with_detail(0, (text.len() % 4294967296) as u32);
+    }
+    answers::plainly(13)
 }
