@@ -5,3 +5,4 @@ pub mod Judged
 pub mod Search
 pub mod Slices
 pub mod Learned
+pub mod Clear

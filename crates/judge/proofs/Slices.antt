@@ -142,8 +142,7 @@ module _ (n : ℕ) (transport : Bool) (spns starts widths : List ℕ) where
   Left rs = judgeOver n transport (inSlices spns starts widths) ≡ firstNamed rs plainLast
 
   -- where no rule names a position, the transport flag and L decide
-  pub by-transport : Left [] → (end bytes : ℕ) (wrong b : Bool) → end ≡ endTo starts widths n → bytes ≡ bytesFor end
-      → wrong ≡ wrongTransport transport bytes → wrong ≡ b → at (cond b 8 0) 0 ≡ judgeOver n transport (inSlices spns starts widths)
+  pub last-is : Left [] → (end : ℕ) (j : Judged) → end ≡ endTo starts widths n
+      → j ≡ at (cond (wrongTransport transport (bytesFor end)) 8 0) 0 → j ≡ judgeOver n transport (inSlices spns starts widths)
   unfolding firstNamed
-  by-transport left end bytes wrong b e l w v =
-      ap (λ (x : Bool). at (cond x 8 0) 0) (sym v ∙ w ∙ ap (wrongTransport transport) (l ∙ ap bytesFor e)) ∙ sym left
+  last-is left end j e f = f ∙ ap (λ (x : ℕ). at (cond (wrongTransport transport (bytesFor x)) 8 0) 0) e ∙ sym left

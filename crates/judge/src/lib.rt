@@ -1,13 +1,16 @@
 // Judging a map that stands in plain slices of SPNs, starts and widths (01, "A set and its judgement"; 02, Req 04). The slices may have any length and
 // hold anything; what they stand for is `inSlices`. In each search the count says what holds of the positions that were passed.
 ghost use mathlib.Core.Path.{_≡_};
-ghost use Prim.Native.Nat.{_≤_, _<_, min, max};
-ghost use lib.Dec.{ltb};
+ghost use Prim.Native.Nat.{_%_, _≤_, _<_, min, max};
+ghost use mathlib.Core.Bool.{cond, not, _&&_, _||_};
+ghost use lib.Dec.{eqb, ltb};
 ghost use lib.ListN.{length};
 ghost use Rattle.answers.specs.Answers.{saidOf};
 ghost use Rattle.words.specs.First.{lowest};
-ghost use Rattle.places.specs.Place.{sharesBit, endIn, endTo};
+ghost use Rattle.places.specs.Place.{odd, sharesBit, endIn, endTo, bytesFor};
+ghost use Rattle.answers.specs.Answers.{at};
 ghost use Rattle.judge.specs.Judge.{numberAt, shortest as shortestOf, marked, unknown, repeated, notAbove, uneven, overlaps, beyond, wrongTransport, judgeOver, inSlices};
+ghost use Rattle.judge.specs.Walk.{floorAt, Passed, brokenBy, broken};
 use answers::Judgement;
 
 // The width that says "nothing stands at this position".
@@ -195,18 +198,6 @@ fn end_at(starts: &[u32], widths: &[u32], i: u8) -> u64
     places::end_bit(number_at(starts, i), number_at(widths, i))
 }
 
-// The same, where the largest end of the earlier ones is known: they are looked at only where the parameter starts below it, which it may, in the low bits
-// that an odd width skips.
-fn is_overlap(end: u64, starts: &[u32], widths: &[u32], i: u8) -> bool
-    requires { ⌜ (i < length (now starts)) × (i < length (now widths)) × (end ≡ endTo (now starts) (now widths) i) ⌝ }
-    ensures { λ r. ⌜ r ≡ overlaps (numberAt (now (starts .entry))) (numberAt (now (widths .entry))) i ⌝ }
-{
-    if end <= number_at(starts, i) as u64 {
-        return false;
-    }
-    shares_earlier(starts, widths, i)
-}
-
 // The lowest position that shares a bit with an earlier one, or 0; where there is none, also the largest end of all.
 fn sweep(n: u8, starts: &[u32], widths: &[u32]) -> Swept
     requires { ⌜ (n ≤ length (now starts)) × (n ≤ length (now widths)) ⌝ }
@@ -216,7 +207,7 @@ fn sweep(n: u8, starts: &[u32], widths: &[u32]) -> Swept
     let mut end = 0;
     let mut apart = 0;
     while apart < n {
-        if is_overlap(end, starts, widths, apart) {
+        if shares_earlier(starts, widths, apart) {
             return Swept {
                 position: apart + 1,
                 end,
@@ -257,9 +248,19 @@ fn is_wrong_transport(transport: bool, bytes: u64) -> bool
     if transport { bytes == 8 } else { 8 < bytes }
 }
 
-// The judgement of n parameters: the first rule of the list that applies, with its lowest position. No rule after it is tried. The largest end comes
+// What is left to say where no rule names a position, by the largest end: 8, or usable.
+fn last_word(transport: bool, end: u64) -> Judgement
+    ensures { λ r. ⌜ saidOf r ≡ at (cond (wrongTransport transport (bytesFor end)) 8 0) 0 ⌝ }
+{
+    if is_wrong_transport(transport, places::bytes_for(end)) {
+        return Judgement::Transport;
+    }
+    Judgement::Usable
+}
+
+// The judgement of n parameters, rule by rule: the first rule of the list that applies, with its lowest position. No rule after it is tried. The largest end comes
 // from the search for shared bits: which position is beyond 14,280 is looked for only where it is.
-pub fn judge(n: u8, transport: bool, spns: &[u32], starts: &[u32], widths: &[u32]) -> Judgement
+fn by_rules(n: u8, transport: bool, spns: &[u32], starts: &[u32], widths: &[u32]) -> Judgement
     ensures { λ r. ⌜ saidOf r ≡ judgeOver n transport (inSlices (now (spns .entry)) (now (starts .entry)) (now (widths .entry))) ⌝ }
 {
     let missing = lowest_missing(n, spns, starts, widths);
@@ -290,8 +291,114 @@ pub fn judge(n: u8, transport: bool, spns: &[u32], starts: &[u32], widths: &[u32
         let beyond = lowest_beyond(n, starts, widths);
         return Judgement::Beyond(beyond);
     }
-    if is_wrong_transport(transport, places::bytes_for(swept.end)) {
-        return Judgement::Transport;
+    last_word(transport, swept.end)
+}
+
+// ---- all rules in one walk
+
+// How many marks there are for the SPNs that were passed: one for each remainder.
+const MARKS: usize = 256;
+
+// The mark of an SPN. Two SPNs may have one mark; a mark that is not set says that its SPN was not passed.
+fn mark_of(spn: u32) -> usize
+    ensures { λ r. ⌜ (r ≡ spn % 256) × (r < 256) ⌝ }
+{
+    (spn % 256) as usize
+}
+
+// Whether the SPN at index i stands at a lower one too, where each SPN that was passed has its mark: the lower ones are looked at only where the mark is set.
+fn is_again(seen: &[u8; MARKS], spns: &[u32], i: u8) -> bool
+    requires { ⌜ (i < length (now spns)) × Passed (now seen) (now spns) i ⌝ }
+    ensures { λ r. ⌜ r ≡ repeated (numberAt (now (spns .entry))) i ⌝ }
+{
+    if seen[mark_of(number_at(spns, i))] == 0 {
+        return false;
     }
-    Judgement::Usable
+    is_repeated(spns, i)
+}
+
+// Whether the parameter at index i shares a bit with an earlier one, where the largest end of the earlier ones is known: they are looked at only where the parameter starts below it, which it may, in the low bits
+// that an odd width skips.
+fn is_overlap(end: u64, starts: &[u32], widths: &[u32], i: u8) -> bool
+    requires { ⌜ (i < length (now starts)) × (i < length (now widths)) × (end ≡ endTo (now starts) (now widths) i) ⌝ }
+    ensures { λ r. ⌜ r ≡ overlaps (numberAt (now (starts .entry))) (numberAt (now (widths .entry))) i ⌝ }
+{
+    if end <= number_at(starts, i) as u64 {
+        return false;
+    }
+    shares_earlier(starts, widths, i)
+}
+
+// Whether a rule applies that looks at no other parameter, or only at the start before: `floor` is one above that start.
+fn is_broken_alone(start: u32, width: u32, floor: u64) -> bool
+    ensures { λ r. ⌜ r ≡ brokenBy start width floor ⌝ }
+{
+    (width == 0)
+        | (width == MISSING)
+        | ((start as u64) < floor)
+        | (places::is_odd(width) & (start % 8 != 0))
+        | is_beyond(places::end_bit(start, width))
+}
+
+// Whether any rule applies to the parameter at index i, by what the walk knows of the lower ones.
+fn is_broken(
+    floor: u64,
+    end: u64,
+    seen: &[u8; MARKS],
+    spns: &[u32],
+    starts: &[u32],
+    widths: &[u32],
+    i: u8,
+) -> bool
+    requires { ⌜ (i < length (now spns)) × (i < length (now starts)) × (i < length (now widths))
+        × (floor ≡ floorAt (numberAt (now starts)) i) × (end ≡ endTo (now starts) (now widths) i) × Passed (now seen) (now spns) i ⌝ }
+    ensures { λ r. ⌜ r ≡ broken (now (spns .entry)) (now (starts .entry)) (now (widths .entry)) i ⌝ }
+{
+    if is_broken_alone(number_at(starts, i), number_at(widths, i), floor) {
+        return true;
+    }
+    if is_again(seen, spns, i) {
+        return true;
+    }
+    is_overlap(end, starts, widths, i)
+}
+
+// The lowest position that any rule applies to, or 0; where there is none, also the largest end of all. Most maps are usable: of them this is all that is looked at.
+fn walk(n: u8, spns: &[u32], starts: &[u32], widths: &[u32]) -> Swept
+    requires { ⌜ (n ≤ length (now spns)) × (n ≤ length (now starts)) × (n ≤ length (now widths)) ⌝ }
+    ensures { λ r. ⌜ (r .position ≡ lowest (broken (now (spns .entry)) (now (starts .entry)) (now (widths .entry))) n)
+        × (r .position ≡ 0 → r .end ≡ endTo (now (starts .entry)) (now (widths .entry)) n) ⌝ }
+{
+    let mut seen = [0u8; MARKS];
+    let mut floor = 0;
+    let mut end = 0;
+    let mut clear = 0;
+    while clear < n {
+        if is_broken(floor, end, &seen, spns, starts, widths, clear) {
+            return Swept {
+                position: clear + 1,
+                end,
+            };
+        }
+        seen[mark_of(number_at(spns, clear))] = 1;
+        floor = number_at(starts, clear) as u64 + 1;
+        end = larger(end, end_at(starts, widths, clear));
+        clear += 1;
+    }
+    Swept { position: 0, end }
+}
+
+// The judgement of n parameters: the first rule of the list that applies, with its lowest position. One walk says whether any applies; only where one does, or
+// a slice is too short, they are tried in their order.
+pub fn judge(n: u8, transport: bool, spns: &[u32], starts: &[u32], widths: &[u32]) -> Judgement
+    ensures { λ r. ⌜ saidOf r ≡ judgeOver n transport (inSlices (now (spns .entry)) (now (starts .entry)) (now (widths .entry))) ⌝ }
+{
+    if shortest(spns, starts, widths) < n as usize { // one is missing
+        return by_rules(n, transport, spns, starts, widths);
+    }
+    let walked = walk(n, spns, starts, widths);
+    if walked.position != 0 { // which rule comes first
+        return by_rules(n, transport, spns, starts, widths);
+    }
+    last_word(transport, walked.end)
 }

@@ -1,19 +1,21 @@
 -- What the lists of a row's cells say: the parameters of its positions, and the same judgement. Assumes nothing.
-use Prim.Native.Nat.{ℕ, suc, _+_, _-_, _/_, _%_, _^_, _≤_, _<_, min}
+use Prim.Native.Nat.{ℕ, zero, suc, _+_, _-_, _/_, _%_, _^_, _≤_, _<_, min}
 use mathlib.Core.Path.{_≡_, refl, sym, ap, ap₂, _∙_}
 use mathlib.Core.Bool.{Bool, true, false, cond}
-use mathlib.Core.List.{List, _++_}
+use mathlib.Core.List.{List, [], _∷_, _++_}
 use mathlib.Core.Option.{Option, none, some}
 use lib.Dec.{eqb}
 use lib.ListN.{length, getD, set, take, drop, length-append, length-drop, List·getD-append}
 use lib.Seq.{take-append-seam, drop-at, getD-append-add, getD-drop}
-use native.Mathlib.Nat.{add-zero, min-eq-left, min-eq-right, min-le-right}
+use native.Mathlib.Nat.{add-zero, min-eq-left, min-eq-right, min-le-right, le-of-suc-le-suc, not-suc-le-zero}
 use native.Mathlib.Decide.{decLt}
 use native.Mathlib.Omega.{arith}
 use borrow.Author.Tests.{le-leb, lt-leb, ne-eqb}
 use Rattle.answers.specs.Answers.{Judged, at as judgedAt}
 use Rattle.message.specs.declared.Place.{Place}
 use Rattle.words.specs.Lists.{tabulate}
+use Rattle.words.specs.First.{any}
+use Rattle.words.proofs.Lowest.{any-each}
 use Rattle.words.proofs.Lists.{in-range, length-tabulate, get-tabulate, tabulate-equal, write-more}
 use Rattle.dictionary.specs.Dictionary.{widthBy, widthsOver}
 use Rattle.dictionary.proofs.Table.{width-most}
@@ -25,7 +27,7 @@ use Rattle.judge.proofs.Slices.{slices-at, slices-past}
 use Rattle.keyrow.specs.Row.{positions, stateWord, formWord}
 use Rattle.keyrow.specs.View.{headOf, formEdition, placeOf, placeIn, rowMap, rowAs, spnThere, startThere}
 use Rattle.open.specs.Open.{isHeld, widthRow, markedWidth, reach}
-use Rattle.open.specs.Unfolded.{paramsIn, unfolded, unfoldedIn, markedAt, markedTo}
+use Rattle.open.specs.Unfolded.{paramsIn, unfolded, unfoldedIn, emptyAt, markedAt, markedTo}
 
 -- the parameter of index i by its word
 pub cell-at : (row : List ℕ) (i : ℕ) → i < positions → withWidth (widthRow row) (placeOf (getD row (3 + i) 0)) ≡ paramsIn row (suc i)
@@ -165,6 +167,19 @@ mark-turn row d xs i v l e f =
   where
     still : getD (tabulate (markedAt row d) i ++ drop i d) i 0 ≡ getD d i 0
     still = past-front (tabulate (markedAt row d) i) d i (length-tabulate (markedAt row d) i)
+
+-- a front that holds what stood there changes nothing
+same-front : (f : ℕ → ℕ) (n : ℕ) (d : List ℕ) → n ≤ length d → ((i : ℕ) → i < n → f i ≡ getD d i 0) → tabulate f n ++ drop n d ≡ d
+unfolding tabulate
+same-front f zero d l h = refl
+same-front f (suc n) [] l h = absurd (not-suc-le-zero l)
+same-front f (suc n) (x ∷ d) l h =
+    ap₂ (λ (y : ℕ) (t : List ℕ). y ∷ t) (h 0 (omega arith)) (same-front (λ k. f (suc k)) n d (le-of-suc-le-suc l) (λ i m. h (suc i) (omega arith)))
+
+-- so where no cell is empty, no width is marked
+pub none-marked : (row widths : List ℕ) (m : ℕ) → m ≤ length widths → any (emptyAt row) m ≡ false → widths ≡ markedTo row m widths
+unfolding markedTo
+none-marked row widths m l e = sym (same-front (markedAt row widths) m widths l (λ i h. rw (any-each (emptyAt row) m e i h)))
 
 -- the widths of the first m SPNs by the row's edition, marked where nothing stands, are the row's own
 module _ (row held : List ℕ) (m : ℕ) (l : m ≤ positions) (f : length held ≡ positions) where

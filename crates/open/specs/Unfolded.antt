@@ -1,7 +1,7 @@
 -- A row of the learned table as lists of SPNs, starts and widths of its first positions. Only the promises of private functions cite this.
 -- Assumes nothing.
 use Prim.Native.Nat.{ℕ, suc, _+_}
-use mathlib.Core.Bool.{cond}
+use mathlib.Core.Bool.{Bool, cond}
 use mathlib.Core.Option.{Option}
 use mathlib.Core.List.{List, _++_}
 use lib.Dec.{eqb}
@@ -24,9 +24,13 @@ unfolded f row m held = tabulate (λ i. f (paramsIn row (suc i))) m ++ drop m he
 abbrev pub unfoldedIn : (Option Param → ℕ) → List ℕ → List ℕ → List ℕ
 unfoldedIn f row held = unfolded f row (reach (headOf (formWord row) .n)) held
 
+-- whether the cell of an index is empty
+abbrev pub emptyAt : List ℕ → ℕ → Bool
+emptyAt row i = eqb (getD row (3 + i) 0) 0
+
 -- widths with the mark at each of the first m positions whose cell is empty
 abbrev pub markedAt : List ℕ → List ℕ → ℕ → ℕ
-markedAt row widths i = cond (eqb (getD row (3 + i) 0) 0) mark (getD widths i 0)
+markedAt row widths i = cond (emptyAt row i) mark (getD widths i 0)
 
 unfoldable pub markedTo : List ℕ → ℕ → List ℕ → List ℕ
 markedTo row m widths = tabulate (markedAt row widths) m ++ drop m widths

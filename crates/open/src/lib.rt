@@ -5,12 +5,13 @@ ghost use mathlib.Core.Bool.{cond};
 ghost use Prim.Native.Nat.{_≤_};
 ghost use lib.Dec.{eqb};
 ghost use lib.ListN.{length};
+ghost use Rattle.words.specs.First.{any};
 ghost use Rattle.answers.specs.Answers.{saidOf, at};
 ghost use Rattle.judge.specs.Judge.{spnIn, startIn, mark, judge as judgementOf};
 ghost use Rattle.keyrow.specs.Row.{rowWords, positions, keyOf};
 ghost use Rattle.keyrow.specs.View.{rowMap, rowAs};
 ghost use Rattle.open.specs.Open.{mapAs, widthRow, widthFor, markedWidth, reach, openedIn, openedBy};
-ghost use Rattle.open.specs.Unfolded.{unfolded, unfoldedIn, markedTo};
+ghost use Rattle.open.specs.Unfolded.{unfolded, unfoldedIn, emptyAt, markedTo};
 use answers::Answer;
 use answers::Judgement;
 use keyrow::CELLS;
@@ -44,19 +45,22 @@ fn reach_of(n: u8) -> usize
 
 // ---- the lists
 
-// Lays SPN and start of each of the first n cells.
-fn lay_places(row: &[u64], n: usize, spns: &mut [u32], starts: &mut [u32])
+// Lays SPN and start of each of the first n cells, and says whether one of them is empty.
+fn lay_places(row: &[u64], n: usize, spns: &mut [u32], starts: &mut [u32]) -> bool
     requires { ⌜ (length (now row) ≡ rowWords) × (n ≤ positions) × (length (now spns) ≡ positions) × (length (now starts) ≡ positions) ⌝ }
-    ensures { λ _. ⌜ (now (spns .exit) ≡ unfolded spnIn (now (row .entry)) n (now (spns .entry)))
-        × (now (starts .exit) ≡ unfolded startIn (now (row .entry)) n (now (starts .entry))) ⌝ }
+    ensures { λ r. ⌜ (now (spns .exit) ≡ unfolded spnIn (now (row .entry)) n (now (spns .entry)))
+        × (now (starts .exit) ≡ unfolded startIn (now (row .entry)) n (now (starts .entry))) × (r ≡ any (emptyAt (now (row .entry))) n) ⌝ }
 {
+    let mut empty = false;
     let mut i = 0;
     while i < n {
         let cell = row[CELLS + i];
+        empty |= cell == 0;
         spns[i] = keyrow::spn_of(cell);
         starts[i] = keyrow::start_of(cell);
         i += 1;
     }
+    empty
 }
 
 // The mark where a cell is empty, else its width.
@@ -81,6 +85,16 @@ fn mark_missing(row: &[u64], n: usize, widths: &mut [u32])
     }
 }
 
+// The same, where it is known whether one of the cells is empty: of most maps none is, and the widths stay as they are.
+fn mark_where(empty: bool, row: &[u64], n: usize, widths: &mut [u32])
+    requires { ⌜ (length (now row) ≡ rowWords) × (n ≤ positions) × (length (now widths) ≡ positions) × (empty ≡ any (emptyAt (now row)) n) ⌝ }
+    ensures { λ _. ⌜ now (widths .exit) ≡ markedTo (now (row .entry)) n (now (widths .entry)) ⌝ }
+{
+    if empty {
+        mark_missing(row, n, widths);
+    }
+}
+
 // Unfolds the first n cells of a row as SPNs, starts and widths. Every width that a call uses comes from here, from one look-up of all SPNs by the row's edition.
 fn unfold_row(row: &[u64], n: usize, spns: &mut [u32], starts: &mut [u32], widths: &mut [u32])
     requires { ⌜ (length (now row) ≡ rowWords) × (n ≤ positions) × (length (now spns) ≡ positions) × (length (now starts) ≡ positions) × (length (now widths) ≡ positions) ⌝ }
@@ -88,10 +102,10 @@ fn unfold_row(row: &[u64], n: usize, spns: &mut [u32], starts: &mut [u32], width
         × (now (starts .exit) ≡ unfolded startIn (now (row .entry)) n (now (starts .entry)))
         × (now (widths .exit) ≡ unfolded markedWidth (now (row .entry)) n (now (widths .entry))) ⌝ }
 {
-    lay_places(row, n, spns, starts);
+    let empty = lay_places(row, n, spns, starts);
     let edition = keyrow::edition_of(row[FORM]);
     dictionary::widths_of(edition, &spns[..n], widths);
-    mark_missing(row, n, widths);
+    mark_where(empty, row, n, widths);
 }
 
 // Unfolds a row as far as its n asks, and judges what it holds, in conflict or not. A position past the 64 is missing.

@@ -118,7 +118,7 @@ unfolding sharesBit
 shares-none s1 w1 s2 w2 = meet-each (place s1 w1) w1 (place s2 w2) w2
 
 -- one that starts at or after the end of another shares no bit with it
-shares-after : (s1 w1 s2 w2 : ℕ) → endOf s1 w1 ≤ s2 → sharesBit s1 w1 s2 w2 ≡ false
+pub shares-after : (s1 w1 s2 w2 : ℕ) → endOf s1 w1 ≤ s2 → sharesBit s1 w1 s2 w2 ≡ false
 unfolding sharesBit
 shares-after s1 w1 s2 w2 h =
     meet-none (place s1 w1) w1 (place s2 w2) w2 (λ k l m n e. omega (arith, place-lt s1 w1 k m, start-le s2 w2 l))

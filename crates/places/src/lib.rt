@@ -51,10 +51,13 @@ fn run_shares(from: u64, n: u64, start: u32, width: u32) -> bool
         | runs_share(from, n, left_bit(start, width), width as u64 - whole)
 }
 
-// Whether two parameters share a payload bit.
+// Whether two parameters share a payload bit. Where the second starts at or after the end of the first, as most do that are asked about, nothing else is looked at.
 pub fn shares(s1: u32, w1: u32, s2: u32, w2: u32) -> bool
     ensures { λ r. ⌜ r ≡ sharesBit s1 w1 s2 w2 ⌝ }
 {
+    if end_bit(s1, w1) <= s2 as u64 {
+        return false;
+    }
     let whole = (w1 / 8 * 8) as u64;
     run_shares(s1 as u64, whole, s2, w2) | run_shares(left_bit(s1, w1), w1 as u64 - whole, s2, w2)
 }

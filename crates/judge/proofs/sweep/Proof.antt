@@ -28,7 +28,7 @@ loop-holds c = (search needs, refl, below-none _)
 returns : tie.Need-returns Inv-loop μ-loop
 returns c =
     let l = c .before .before .before in
-    (hit _ _ _ _ (c .before .before .loop-test .taken) (l .loop .inv .2) (c .before .is-overlap .ensures) (c .if1 .taken), λ z. absurd (omega arith))
+    (hit _ _ _ _ (c .before .before .loop-test .taken) (l .loop .inv .2) (c .before .shares-earlier .ensures) (c .if1 .taken), λ z. absurd (omega arith))
 
 loop-again : tie.Need-loop-again Inv-loop μ-loop
 loop-again c =
@@ -37,7 +37,7 @@ loop-again c =
     let a = l .before .before .before .args in (
       search needs,
       c .larger .ensures ∙ ap₂ max (l .loop .inv .1) (c .before .end-at .ensures) ∙ sym (end-more (now (a .starts)) (now (a .widths)) (l .loop .apart)),
-      turn _ _ _ (l .loop .inv .2) (t .before .is-overlap .ensures) (t .if1 .left),
+      turn _ _ _ (l .loop .inv .2) (t .before .shares-earlier .ensures) (t .if1 .left),
     )
 
 -- all passed

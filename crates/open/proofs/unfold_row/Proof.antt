@@ -23,7 +23,7 @@ returns c =
     let a = s .args in (
       p .lay-places .ensures .0,
       p .lay-places .ensures .1,
-      m .mark-missing .ensures ∙ ap (markedTo (now (a .row)) (a .n)) (w .widths-of .ensures)
+      m .mark-where .ensures ∙ ap (markedTo (now (a .row)) (a .n)) (w .widths-of .ensures)
           ∙ widths-unfolded (now (a .row)) (now (a .widths)) (a .n) (s .pre .1) (s .pre .4) _ (v .edition-of .ensures) _
           (ap (take (a .n)) (p .lay-places .ensures .0) ∙ unfolded-first spnIn (now (a .row)) (a .n) (now (a .spns))),
     )
