@@ -10,24 +10,28 @@ use borrow.Author.Tests.{le-leb, lt-leb, lt-ltb, le-ltb}
 use lib.Bits.{bitAnd, bitOr, bitXor, differ, and-mask}
 use lib.Dec.{eqb, ltb}
 use lib.ListN.{length, getD, set}
-use lib.Pow.{pow-pos, pow-mono, ones-lt, shl-exact}
+use lib.Pow.{pow-pos, pow-mono, ones-lt, shl-exact, shr-shr}
 use lib.Seq.{getD-set-same, getD-set-other}
 use Rattle.bits.specs.Bits.{bit, bitAt, fromBits, bitAfter, runAt, masked}
 use Rattle.bits.proofs.Bits.{bit-lt, bit-mod, bit-shr, bit-low, bit-high, bit-above, bit-ones, bit-and, bit-or, bit-xor, bitAt-lt, at-bit, from-lt, from-add, from-same, from-of, bit-from}
 use Rattle.bits.proofs.After.{after-out, after-at}
 
--- ---- one byte by a mask
+-- ---- a number of k bits by a mask
 
 pick : (x y m : ℕ) → x < 2 → y < 2 → m < 2 → max (min x (differ m 1)) (min y m) ≡ cond (eqb m 1) y x
 pick x y zero h l k = omega arith
 pick x y (suc zero) h l k = omega arith
 pick x y (suc (suc m)) h l k = absurd (omega arith)
 
-pub merged : (old mask new j : ℕ) → j < 8
-    → bit (bitOr (bitAnd old (bitXor mask 255)) (bitAnd new mask)) j ≡ cond (eqb (bit mask j) 1) (bit new j) (bit old j)
-merged old mask new j l =
-    rw (bit-or, bit-and old (bitXor mask 255) j, bit-and new mask j, bit-xor mask 255 j, bit-ones 8 j l)
+pub merged : (k old mask new j : ℕ) → j < k
+    → bit (bitOr (bitAnd old (bitXor mask (2 ^ k - 1))) (bitAnd new mask)) j ≡ cond (eqb (bit mask j) 1) (bit new j) (bit old j)
+merged k old mask new j l =
+    rw (bit-or, bit-and old (bitXor mask (2 ^ k - 1)) j, bit-and new mask j, bit-xor mask (2 ^ k - 1) j, bit-ones k j l)
     (pick (bit old j) (bit new j) (bit mask j) (bit-lt old j) (bit-lt new j) (bit-lt mask j))
+
+-- what is left of a number above its byte i
+pub byte-less : (x i y : ℕ) → y ≡ x / 2 ^ (8 * i) → y / 256 ≡ x / 2 ^ (8 * (i + 1))
+byte-less x i y e = ap (λ (z : ℕ). z / 256) e ∙ shr-shr x (8 * i) 8 ∙ ap (λ (z : ℕ). x / 2 ^ z) (omega arith)
 
 -- a bit of byte i of a number
 byte-bit : (x i j : ℕ) → j < 8 → bit (x / 2 ^ (8 * i) % 2 ^ 8) j ≡ bit x (8 * i + j)
@@ -36,7 +40,7 @@ byte-bit x i j l = bit-mod (x / 2 ^ (8 * i)) 8 j l ∙ bit-shr x (8 * i) j
 -- ---- bytes by a mask
 
 module _ (k n mask bits p b : ℕ) where
-  masked-in : 8 * k ≤ p → p < 8 * (k + n) → masked k n mask bits p b ≡ cond (eqb (bit mask (p - 8 * k)) 1) (bit bits (p - 8 * k)) b
+  pub masked-in : 8 * k ≤ p → p < 8 * (k + n) → masked k n mask bits p b ≡ cond (eqb (bit mask (p - 8 * k)) 1) (bit bits (p - 8 * k)) b
   unfolding masked
   masked-in l h = rw (le-leb (8 * k) p l, lt-ltb p (8 * (k + n)) h)
 
@@ -81,7 +85,7 @@ module _ (xs : List ℕ) (k i mask bits m new y : ℕ) (b : ℕ → ℕ) (inside
       there : (p / 8 ≡ k + i → ⊥) → bitAt (set xs (k + i) y) p ≡ masked k (i + 1) mask bits p (b p)
       there f = ap (λ (x : ℕ). bit x (p % 8)) (getD-set-other xs (k + i) (p / 8) y 0 f) ∙ before p ∙ rw (same f)
 
--- ---- a run by its mask: w ones, and the number's bits, each as far up as the run starts in its byte
+-- ---- a run by its mask: w ones, and the number's bits, each as far up as the run starts
 
 up-bit : (v off i : ℕ) → bit (v * 2 ^ off) (off + i) ≡ bit v i
 up-bit v off i = ap (λ (x : ℕ). bit x (off + i)) (sym (add-zero (v * 2 ^ off))) ∙ bit-high v off 0 i (pow-pos off)
@@ -89,25 +93,25 @@ up-bit v off i = ap (λ (x : ℕ). bit x (off + i)) (sym (add-zero (v * 2 ^ off)
 up-below : (v off i : ℕ) → i < off → bit (v * 2 ^ off) i ≡ 0
 up-below v off i l = ap (λ (x : ℕ). bit x i) (sym (add-zero (v * 2 ^ off))) ∙ bit-low v off 0 i (pow-pos off) l ∙ bit-above 0 i (pow-pos i)
 
-masked-run : (s w v p b : ℕ)
-    → masked (s / 8) ((s % 8 + w + 7) / 8) ((2 ^ w - 1) * 2 ^ (s % 8)) (v * 2 ^ (s % 8)) p b ≡ bitAfter (λ i. s + i) (bit v) w p b
-masked-run s w v p b =
+-- the run starts off bits into byte k, which is payload bit s
+pub masked-run : (k n off s w v p b : ℕ) → 8 * k + off ≡ s → off + w ≤ 8 * n
+    → masked k n ((2 ^ w - 1) * 2 ^ off) (v * 2 ^ off) p b ≡ bitAfter (λ i. s + i) (bit v) w p b
+masked-run k n off s w v p b at room =
     elim (decLt p s) [
-      | yes l ↦ masked-out _ _ _ _ p b (λ m h. up-below (2 ^ w - 1) (s % 8) (p - 8 * (s / 8)) (omega arith))
-          ∙ sym (after-out (λ i. s + i) (bit v) w p b (λ i m. omega arith))
+      | yes l ↦ masked-out _ _ _ _ p b (λ m h. up-below (2 ^ w - 1) off (p - 8 * k) (omega arith)) ∙ sym (after-out (λ i. s + i) (bit v) w p b (λ i m. omega arith))
       | no l ↦ elim (decLt p (s + w)) [ yes m ↦ in-run (p - s) (omega arith) (omega arith) | no m ↦ past (p - s) (omega arith) (omega arith) ]
     ]
   where
-    in-run : (i : ℕ) → s + i ≡ p → i < w → masked (s / 8) ((s % 8 + w + 7) / 8) ((2 ^ w - 1) * 2 ^ (s % 8)) (v * 2 ^ (s % 8)) p b ≡ bitAfter (λ i. s + i) (bit v) w p b
+    in-run : (i : ℕ) → s + i ≡ p → i < w → masked k n ((2 ^ w - 1) * 2 ^ off) (v * 2 ^ off) p b ≡ bitAfter (λ i. s + i) (bit v) w p b
     in-run i e l =
-        let q : p - 8 * (s / 8) ≡ s % 8 + i = omega arith in
-        masked-in (s / 8) _ _ _ p b (omega arith) (omega arith)
-        ∙ rw (q, up-bit (2 ^ w - 1) (s % 8) i, bit-ones w i l, up-bit v (s % 8) i, ← e) (sym (after-at (λ i. s + i) (bit v) w i b l (λ j m. omega arith)))
+        let q : p - 8 * k ≡ off + i = omega arith in
+        masked-in k _ _ _ p b (omega arith) (omega arith)
+        ∙ rw (q, up-bit (2 ^ w - 1) off i, bit-ones w i l, up-bit v off i, ← e) (sym (after-at (λ i. s + i) (bit v) w i b l (λ j m. omega arith)))
 
-    past : (i : ℕ) → s + i ≡ p → w ≤ i → masked (s / 8) ((s % 8 + w + 7) / 8) ((2 ^ w - 1) * 2 ^ (s % 8)) (v * 2 ^ (s % 8)) p b ≡ bitAfter (λ i. s + i) (bit v) w p b
+    past : (i : ℕ) → s + i ≡ p → w ≤ i → masked k n ((2 ^ w - 1) * 2 ^ off) (v * 2 ^ off) p b ≡ bitAfter (λ i. s + i) (bit v) w p b
     past i e l =
-        let q : p - 8 * (s / 8) ≡ s % 8 + i = omega arith in
-        masked-out _ _ _ _ p b (λ m h. rw (q, up-bit (2 ^ w - 1) (s % 8) i) (bit-above (2 ^ w - 1) i (lt-of-lt-of-le (ones-lt w) (pow-mono l))))
+        let q : p - 8 * k ≡ off + i = omega arith in
+        masked-out _ _ _ _ p b (λ m h. rw (q, up-bit (2 ^ w - 1) off i) (bit-above (2 ^ w - 1) i (lt-of-lt-of-le (ones-lt w) (pow-mono l))))
         ∙ sym (after-out (λ i. s + i) (bit v) w p b (λ j m. omega arith))
 
 -- as the code shifts them: x is payload bit p afterwards
@@ -116,7 +120,7 @@ pub run-masked : (s w v p b n ones x : ℕ) → w ≤ 32 → v < 2 ^ 32 → n �
 run-masked s w v p b n ones x h l e f g =
     g
     ∙ rw (e, f, shl-exact {a = 2 ^ w - 1} 32 (s % 8) 64 (lt-of-lt-of-le (ones-lt w) (pow-mono h)) (omega arith), shl-exact {a = v} 32 (s % 8) 64 l (omega arith))
-    (masked-run s w v p b)
+    (masked-run (s / 8) ((s % 8 + w + 7) / 8) (s % 8) s w v p b (omega arith) (omega arith))
 
 -- ---- reading
 

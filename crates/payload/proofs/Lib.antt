@@ -1,3 +1,4 @@
 pub mod Turns
 pub mod Fit
 pub mod Laws
+pub mod OneWord

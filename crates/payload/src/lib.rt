@@ -1,10 +1,13 @@
 // Packing and reading a configured payload (01, "Payload bits"). This room knows the starts, widths and numbers of a map as lists, and no message and no
-// judgement.
+// judgement. A payload of eight bytes, which most are, is packed and read as one number; any other one byte by byte.
 ghost use mathlib.Core.Path.{_≡_};
+ghost use mathlib.Core.Bool.{true};
 ghost use Prim.Native.Nat.{_≤_};
-ghost use lib.ListN.{length};
+ghost use lib.ListN.{length, getD};
+ghost use Rattle.words.specs.Lists.{tabulate};
 ghost use Rattle.places.specs.Place.{sizeOf, unplacedIn, endPlaced};
-ghost use Rattle.bits.specs.Bits.{bytesWith};
+ghost use Rattle.bits.specs.Bits.{bit, bytesWith};
+ghost use Rattle.single.specs.Single.{cutFrom};
 ghost use Rattle.payload.specs.Payload.{packed, readAll};
 ghost use Rattle.payload.specs.Calls.{left, needsMore, tooWideIn, packing, reading};
 
@@ -75,9 +78,8 @@ fn pack_into(starts: &[u32], widths: &[u32], numbers: &[u32], out: &mut [u8])
     }
 }
 
-// Packs the numbers of a map into the first L bytes of `out`. Every test is made before the first byte is written; where two parameters share a bit, the
-// later one has it.
-pub fn pack(starts: &[u32], widths: &[u32], numbers: &[u32], out: &mut [u8]) -> Laying
+// What `pack` does, of any map: it is measured, tested, and laid byte by byte.
+fn pack_any(starts: &[u32], widths: &[u32], numbers: &[u32], out: &mut [u8]) -> Laying
     ensures { λ r. ⌜ left r (now (out .exit)) ≡ packing (now (starts .entry)) (now (widths .entry)) (now (numbers .entry)) (now (out .entry)) ⌝ }
 {
     let map = places::measure(starts, widths);
@@ -97,6 +99,75 @@ pub fn pack(starts: &[u32], widths: &[u32], numbers: &[u32], out: &mut [u8]) -> 
     Laying::Done(bytes)
 }
 
+// Whether a map may have a payload of eight bytes: its last parameter starts there. It keeps the maps of longer payloads from being walked for nothing; of the
+// others it says that their lists are long enough to be walked.
+fn may_be_short(starts: &[u32], widths: &[u32]) -> bool
+    ensures { λ r. ⌜ (r ≡ true → (length (now (starts .entry)) ≤ 64) × (length (now (starts .entry)) ≤ length (now (widths .entry)))) ⌝ }
+{
+    let n = starts.len();
+    if n == 0 {
+        return true;
+    }
+    (n <= 64) & (n <= widths.len()) & (starts[n - 1] < 64)
+}
+
+// A payload of eight bytes as one number, where it is done.
+struct Short {
+    done: bool,
+    word: u64,
+}
+
+// Packs a map's numbers into one number: every bit 1, then each number laid at its places, in position order. Each parameter is looked at once; it is not
+// done where one does not lie in eight bytes, or where its number needs more than its width.
+fn pack_word(starts: &[u32], widths: &[u32], numbers: &[u32]) -> Short
+    requires { ⌜ (length (now starts) ≤ 64) × (length (now starts) ≤ length (now widths)) × (length (now numbers) ≡ length (now starts)) ⌝ }
+    ensures { λ r. ⌜ (r .done ≡ true → (unplacedIn (now (starts .entry)) (now (widths .entry)) ≡ 0) × (sizeOf (now (starts .entry)) (now (widths .entry)) ≡ 8)
+        × (tooWideIn (now (widths .entry)) (now (numbers .entry)) ≡ 0)
+        × (bytesWith (bit (r .word)) 8 ≡ packed (now (starts .entry)) (now (widths .entry)) (now (numbers .entry)))) ⌝ }
+{
+    let mut word = 0xffff_ffff_ffff_ffff;
+    let mut i = 0;
+    while i < starts.len() {
+        let start = starts[i];
+        let width = widths[i];
+        let value = numbers[i];
+        if (!single::lies(start, width)) | needs_more(value, width) {
+            return Short { done: false, word };
+        }
+        word = single::with_number(word, start, width, value);
+        i += 1;
+    }
+    Short { done: true, word }
+}
+
+// Lays a number as bytes, the lowest first.
+fn lay_word(out: &mut [u8], word: u64)
+    ensures { λ _. ⌜ now (out .exit) ≡ bytesWith (bit word) (length (now (out .entry))) ⌝ }
+{
+    let mut left = word;
+    let mut i = 0;
+    while i < out.len() {
+        out[i] = (left % 256) as u8;
+        left /= 256;
+        i += 1;
+    }
+}
+
+// Packs the numbers of a map into the first L bytes of `out`. Every test is made before the first byte is written; where two parameters share a bit, the
+// later one has it. What lies in eight bytes is tested and laid as one number, in one walk; what is not done so, a refusal too, goes as any map does.
+pub fn pack(starts: &[u32], widths: &[u32], numbers: &[u32], out: &mut [u8]) -> Laying
+    ensures { λ r. ⌜ left r (now (out .exit)) ≡ packing (now (starts .entry)) (now (widths .entry)) (now (numbers .entry)) (now (out .entry)) ⌝ }
+{
+    if (numbers.len() == starts.len()) & (8 <= out.len()) & may_be_short(starts, widths) {
+        let short = pack_word(starts, widths, numbers);
+        if short.done {
+            lay_word(&mut out[..8], short.word);
+            return Laying::Done(8);
+        }
+    }
+    pack_any(starts, widths, numbers, out)
+}
+
 // Reads a map's numbers into exactly n places.
 fn read_into(starts: &[u32], widths: &[u32], payload: &[u8], room: &mut [u32])
     requires { ⌜ (unplacedIn (now starts) (now widths) ≡ 0) × (length (now room) ≡ length (now starts))
@@ -110,8 +181,8 @@ fn read_into(starts: &[u32], widths: &[u32], payload: &[u8], room: &mut [u32])
     }
 }
 
-// Reads the numbers of a map into the first n places of `room`. Every test is made before the first number is written.
-pub fn read(starts: &[u32], widths: &[u32], payload: &[u8], room: &mut [u32]) -> Laying
+// What `read` does, of any map: it is measured, tested, and read byte by byte.
+fn read_any(starts: &[u32], widths: &[u32], payload: &[u8], room: &mut [u32]) -> Laying
     ensures { λ r. ⌜ left r (now (room .exit)) ≡ reading (now (starts .entry)) (now (widths .entry)) (now (payload .entry)) (now (room .entry)) ⌝ }
 {
     let map = places::measure(starts, widths);
@@ -126,4 +197,66 @@ pub fn read(starts: &[u32], widths: &[u32], payload: &[u8], room: &mut [u32]) ->
     read_into(starts, widths, payload, &mut room[..n]);
     let count = n as u32;
     Laying::Done(count)
+}
+
+// Whether every parameter of a map lies in eight bytes.
+fn all_lie(starts: &[u32], widths: &[u32]) -> bool
+    requires { ⌜ (length (now starts) ≤ 64) × (length (now starts) ≤ length (now widths)) ⌝ }
+    ensures { λ r. ⌜ (r ≡ true → (unplacedIn (now (starts .entry)) (now (widths .entry)) ≡ 0) × (sizeOf (now (starts .entry)) (now (widths .entry)) ≡ 8)) ⌝ }
+{
+    let mut i = 0;
+    while i < starts.len() {
+        if !single::lies(starts[i], widths[i]) {
+            return false;
+        }
+        i += 1;
+    }
+    true
+}
+
+// The eight bytes of a payload, by value.
+fn eight_of(payload: &[u8]) -> [u8; 8]
+    requires { ⌜ length (now payload) ≡ 8 ⌝ }
+    ensures { λ r. ⌜ r ≡ now (payload .entry) ⌝ }
+{
+    [
+        payload[0],
+        payload[1],
+        payload[2],
+        payload[3],
+        payload[4],
+        payload[5],
+        payload[6],
+        payload[7],
+    ]
+}
+
+// Cuts a map's numbers out of eight bytes as one number, into exactly n places.
+fn read_word(starts: &[u32], widths: &[u32], word: u64, room: &mut [u32])
+    requires { ⌜ (length (now starts) ≤ length (now widths)) × (length (now room) ≡ length (now starts)) ⌝ }
+    ensures { λ _. ⌜ now (room .exit) ≡ tabulate (λ i. cutFrom word (getD (now (starts .entry)) i 0) (getD (now (widths .entry)) i 0)) (length (now (starts .entry))) ⌝ }
+{
+    let mut i = 0;
+    while i < starts.len() {
+        room[i] = single::number_in(word, starts[i], widths[i]);
+        i += 1;
+    }
+}
+
+// Reads the numbers of a map into the first n places of `room`. Every test is made before the first number is written. Where all of them lie in the eight bytes
+// of a payload they are cut out of one number; what is not read so, a refusal too, goes as any map does.
+pub fn read(starts: &[u32], widths: &[u32], payload: &[u8], room: &mut [u32]) -> Laying
+    ensures { λ r. ⌜ left r (now (room .exit)) ≡ reading (now (starts .entry)) (now (widths .entry)) (now (payload .entry)) (now (room .entry)) ⌝ }
+{
+    let n = starts.len();
+    if (payload.len() == 8) & (n <= room.len()) & may_be_short(starts, widths) {
+        if all_lie(starts, widths) {
+            let eight = eight_of(payload);
+            let word = single::word_of(&eight);
+            read_word(starts, widths, word, &mut room[..n]);
+            let count = n as u32;
+            return Laying::Done(count);
+        }
+    }
+    read_any(starts, widths, payload, room)
 }

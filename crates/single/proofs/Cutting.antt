@@ -72,16 +72,18 @@ there s w e =
     let (c, d) = and-eq-true-iff (leb 1 w) (leb w 32) .0 a in
     (leb-true 1 w c, leb-true w 32 d, leb-true _ 64 b)
 
-pub cut-not : (word s w : ℕ) → liesThere s w ≡ false → cutFrom word s w ≡ 0
-unfolding cutFrom numberOf fromBits
-cut-not word s w n =
-    test (liesIn 8 s w)
-    (λ y. let (a, b) = lies 8 s w y in
+-- what lies in eight bytes, and does not lie there with a bit, has none
+pub without : (s w : ℕ) → liesThere s w ≡ false → liesIn 8 s w ≡ true → w ≡ 0
+without s w n y =
+    let (a, b) = lies 8 s w y in
     elim (decLt 0 w) [
       | yes q ↦ never (rw (le-leb 1 w (omega arith), le-leb w 32 a, le-leb (endOf s w) 64 b)) n
-      | no q ↦ let e : w ≡ 0 = omega arith in rw (y, e)
-    ])
-    (λ f. rw f)
+      | no q ↦ omega arith
+    ]
+
+pub cut-not : (word s w : ℕ) → liesThere s w ≡ false → cutFrom word s w ≡ 0
+unfolding cutFrom numberOf fromBits
+cut-not word s w n = test (liesIn 8 s w) (λ y. let e : w ≡ 0 = without s w n y in rw (y, e)) (λ f. rw f)
 
 -- ---- THE BITS OF THE PAYLOAD
 

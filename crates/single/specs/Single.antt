@@ -4,7 +4,7 @@ use mathlib.Core.Bool.{Bool, cond, _&&_}
 use Prim.Native.Nat.{ℕ, _+_, _/_, _%_, _^_}
 use lib.Dec.{leb}
 use Rattle.places.specs.Place.{place, endOf}
-use Rattle.bits.specs.Bits.{bit, fromBits, liesIn}
+use Rattle.bits.specs.Bits.{bit, fromBits, bitAfter, liesIn}
 
 -- the n bits from `from` on, as a number
 abbrev pub runIn : ℕ → ℕ → ℕ → ℕ
@@ -21,3 +21,11 @@ liesThere start width = leb 1 width && leb width 32 && leb (endOf start width) 6
 -- the number, and 0 where it does not lie in eight bytes
 unfoldable pub cutFrom : ℕ → ℕ → ℕ → ℕ
 cutFrom word start width = cond (liesIn 8 start width) (numberOf word start width) 0
+
+-- the number with the n low bits of value laid at the bits at 0 .. at (n - 1)
+abbrev pub laidAt : (ℕ → ℕ) → ℕ → ℕ → ℕ → ℕ
+laidAt at n word value = fromBits (λ p. bitAfter at (bit value) n p (bit word p)) 64
+
+-- the eight bytes with a number's bits laid at its places; as they were, where it does not lie in them
+unfoldable pub laidOn : ℕ → ℕ → ℕ → ℕ → ℕ
+laidOn word start width value = cond (liesIn 8 start width) (laidAt (place start width) width word value) word

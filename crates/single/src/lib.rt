@@ -1,11 +1,13 @@
-// A payload of one frame: its eight bytes as one number, out of which a parameter's number is cut by a shift and a mask. What comes out is what `bits` reads from the bytes.
+// A payload of one frame: its eight bytes as one number, out of which a parameter's number is cut by a shift and a mask, and into which it is laid by them.
+// What comes out is what `bits` reads from the bytes, and what is laid is what `bits` lays into them.
 ghost use mathlib.Core.Path.{_≡_};
-ghost use mathlib.Core.Bool.{true};
-ghost use Prim.Native.Nat.{_+_, _-_, _^_, _≤_, _<_};
+ghost use mathlib.Core.Bool.{true, cond};
+ghost use Prim.Native.Nat.{ℕ, _+_, _-_, _^_, _≤_, _<_};
+ghost use lib.Dec.{eqb};
 ghost use lib.ListN.{length};
-ghost use Rattle.places.specs.Place.{odd, endOf};
-ghost use Rattle.bits.specs.Bits.{runAt};
-ghost use Rattle.single.specs.Single.{runIn, numberOf, liesThere, cutFrom};
+ghost use Rattle.places.specs.Place.{odd, place, endOf};
+ghost use Rattle.bits.specs.Bits.{bit, runAt};
+ghost use Rattle.single.specs.Single.{runIn, numberOf, liesThere, cutFrom, laidAt, laidOn};
 
 // The bytes of a frame.
 const BYTES: usize = 8;
@@ -53,7 +55,7 @@ fn cut_odd(word: u64, start: u32, width: u32) -> u32
 }
 
 // Whether a parameter has a bit, 32 at most, and all of them in eight bytes.
-fn lies(start: u32, width: u32) -> bool
+pub fn lies(start: u32, width: u32) -> bool
     ensures { λ r. ⌜ r ≡ liesThere start width ⌝ }
 {
     (1 <= width) & (width <= 32) & (places::end_bit(start, width) <= 64)
@@ -70,4 +72,45 @@ pub fn number_in(word: u64, start: u32, width: u32) -> u32
         return cut_odd(word, start, width);
     }
     run_in(word, start, width)
+}
+
+// The number with the bits that the mask has taken from `bits`.
+fn merge(word: u64, mask: u64, bits: u64) -> u64
+    ensures { λ r. ⌜ ((p : ℕ) → p < 64 → bit r p ≡ cond (eqb (bit mask p) 1) (bit bits p) (bit word p)) ⌝ }
+{
+    (word & (mask ^ 0xffff_ffff_ffff_ffff)) | (bits & mask)
+}
+
+// The number with the low n bits of value laid at its bits from `from` on.
+fn with_run(word: u64, from: u32, n: u32, value: u32) -> u64
+    requires { ⌜ (from < 64) × (n ≤ 32) × (from + n ≤ 64) ⌝ }
+    ensures { λ r. ⌜ r ≡ laidAt (λ i. from + i) n word value ⌝ }
+{
+    let mask = ones(n) << from;
+    let bits = (value as u64) << from;
+    merge(word, mask, bits)
+}
+
+// The number with one of an odd width laid on it: the run of its whole bytes, and that of the bits left over, above those it skips.
+fn with_odd(word: u64, start: u32, width: u32, value: u32) -> u64
+    requires { ⌜ (odd width ≡ true) × (width ≤ 32) × (endOf start width ≤ 64) ⌝ }
+    ensures { λ r. ⌜ r ≡ laidAt (place start width) width word value ⌝ }
+{
+    let whole = width / 8 * 8;
+    let left = places::left_bit(start, width);
+    let low = with_run(word, start, whole, value);
+    with_run(low, left as u32, width - whole, value >> whole)
+}
+
+// The eight bytes as one number with a parameter's number laid at its places; as they were, where it does not lie in them.
+pub fn with_number(word: u64, start: u32, width: u32, value: u32) -> u64
+    ensures { λ r. ⌜ r ≡ laidOn word start width value ⌝ }
+{
+    if !lies(start, width) {
+        return word;
+    }
+    if places::is_odd(width) {
+        return with_odd(word, start, width, value);
+    }
+    with_run(word, start, width, value)
 }

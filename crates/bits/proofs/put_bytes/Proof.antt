@@ -1,14 +1,13 @@
 -- `put_bytes`: after i turns the first i bytes have taken their bits. Assumes nothing.
-use mathlib.Core.Path.{_≡_, refl, sym, ap, _∙_}
-use Prim.Native.Nat.{ℕ, _+_, _-_, _*_, _/_, _^_, _≤_}
+use mathlib.Core.Path.{_≡_, refl, sym}
+use Prim.Native.Nat.{ℕ, _-_, _*_, _/_, _^_, _≤_}
 use native.Mathlib.Nat.{div-one}
 use native.Mathlib.Omega.{arith}
 use borrow.Author.Needs.{needs}
 use denote.Ref.{now}
 use lib.ListN.{length, length-set}
-use lib.Pow.{shr-shr}
 use Rattle.bits.specs.Bits.{bitAt, masked}
-use Rattle.bits.proofs.Run.{put-turn, masked-none}
+use Rattle.bits.proofs.Run.{put-turn, masked-none, byte-less}
 use Rattle.bits.proofs.put_bytes.Statement.{statement}
 use Rattle.bits.proofs.put_bytes.Tie as tie
 
@@ -19,10 +18,6 @@ Inv-loop out₀ k n mask bits m₀ b₀ i₀ out m b i =
 
 abbrev μ-loop : tie.MeasureT-loop
 μ-loop out₀ k n mask bits m₀ b₀ i₀ out m b i = n - i
-
--- a byte less of a number
-byte-less : (x i y : ℕ) → y ≡ x / 2 ^ (8 * i) → y / 256 ≡ x / 2 ^ (8 * (i + 1))
-byte-less x i y e = ap (λ (z : ℕ). z / 256) e ∙ shr-shr x (8 * i) 8 ∙ ap (λ (z : ℕ). x / 2 ^ z) (omega arith)
 
 loop-holds : tie.Need-loop-holds Inv-loop μ-loop
 loop-holds c = (search needs, refl, sym (div-one _), sym (div-one _), λ p. masked-none _ _ _ p _)

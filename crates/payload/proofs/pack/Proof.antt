@@ -1,82 +1,45 @@
--- `pack`: each return by the tests that led there. Assumes nothing.
-use mathlib.Core.Path.{_≡_, sym, _∙_}
+-- `pack`: what is packed as one number is what packing makes. Assumes nothing.
+use mathlib.Core.Path.{_≡_, sym, ap, _∙_}
+use mathlib.Core.Bool.{true}
 use Prim.Native.Nat.{_≤_}
-use native.Mathlib.Omega.{arith}
 use denote.Ref.{now}
 use borrow.Author.Needs.{needs}
-use borrow.Author.Tests.{lt-ltb, le-ltb}
 use lib.ListN.{length}
 use lib.Seq.{length-take-le}
-use Rattle.places.proofs.Placed.{placed-widths, placed-count}
-use Rattle.payload.specs.Calls.{packing}
-use Rattle.payload.proofs.Turns.{lengths}
+use Rattle.bits.specs.Bits.{bit, bytesWith}
+use Rattle.payload.proofs.OneWord.{tried, short-packed}
 use Rattle.payload.proofs.pack.Statement.{statement}
 use Rattle.payload.proofs.pack.Tie as tie
 
--- past the second test the lengths are right
-right : (c : tie.Else2) →
-    let a = c .before .before .before .before .before .before .before .before .before .args in
-    (length (now (a .numbers)) ≡ length (now (a .starts))) × (c .before .map-size .result ≤ length (now (a .out)))
-right c = lengths _ _ _ _ (c .if2 .left)
+-- past the first test the lengths are right
+right : (c : tie.Then1) →
+    let a = c .before .before .before .before .before .before .args in
+    (length (now (a .numbers)) ≡ length (now (a .starts))) × (8 ≤ length (now (a .out))) × (c .before .may-be-short .result ≡ true)
+right c = tried _ _ _ _ _ (c .if1 .taken)
+
+pack-word-requires : tie.Need-pack-word-requires
+pack-word-requires c κs = let r = right c in let m = c .before .may-be-short .ensures (r .2) in (m .0, m .1, r .0)
+
+slice-relend-prefix-lay-word : tie.Need-slice-relend-prefix-lay-word
+slice-relend-prefix-lay-word c = right (c .before .before) .1
+
+slice-aggregate-lay-word : tie.Need-slice-aggregate-lay-word
+slice-aggregate-lay-word c =
+    let t = c .before .before .before in
+    sym (length-take-le 8 (now (t .before .before .before .before .before .before .args .out)) (right t .1))
 
 returns : tie.Need-returns
-unfolding packing
-returns c = simp (← c .before .before .measure .ensures .0, lt-ltb _ _ (c .if1 .taken))
-
-returns-2 : tie.Need-returns-2
-unfolding packing
-returns-2 c =
-    let m = c .before in
-    simp (← m .before .before .before .measure .ensures .0, le-ltb _ _ (m .before .if1 .left), ← m .map-size .ensures .0, c .if2 .taken)
-
-too-wide-requires : tie.Need-too-wide-requires
-too-wide-requires c κs =
-    let a = c .before .before .before .before .before .before .before .before .before .args in
-    omega (arith, right c, placed-widths (now (a .starts)) (now (a .widths)) (omega arith), placed-count (now (a .starts)) (now (a .widths)) (omega arith))
-
-returns-3 : tie.Need-returns-3
-unfolding packing
-returns-3 c =
-    let d = c .before .before in
-    let m = d .before in
-    simp (
-      ← m .before .before .before .measure .ensures .0,
-      le-ltb _ _ (m .before .if1 .left),
-      ← m .map-size .ensures .0,
-      d .if2 .left,
-      ← c .before .too-wide .ensures,
-      lt-ltb _ _ (c .if3 .taken),
-    )
-
-slice-relend-prefix-pack-into : tie.Need-slice-relend-prefix-pack-into
-slice-relend-prefix-pack-into c = right (c .before .before) .1
-
-slice-aggregate-pack-into : tie.Need-slice-aggregate-pack-into
-slice-aggregate-pack-into c = sym (length-take-le _ _ (right (c .before .before .before) .1))
-
-pack-into-requires : tie.Need-pack-into-requires
-pack-into-requires c κs =
-    let d = c .before .before .before in
-    (search needs, right d .0, length-take-le _ _ (right d .1) ∙ d .before .map-size .ensures .0)
-
-returns-4 : tie.Need-returns-4
-unfolding packing
-returns-4 c =
-    let e = c .before .before .before .before in
-    let d = e .before .before in
-    let m = d .before in
-    simp (
-      ← m .before .before .before .measure .ensures .0,
-      le-ltb _ _ (m .before .if1 .left),
-      ← m .map-size .ensures .0,
-      d .if2 .left,
-      ← e .before .too-wide .ensures,
-      le-ltb _ _ (e .if3 .left),
-      ← c .before .before .pack-into .ensures,
-    )
+returns c =
+    let d = c .before .before .before .before in
+    let w = d .before in
+    let r = right (w .before) in
+    let a = w .before .before .before .before .before .before .before .args in
+    let p = w .pack-word .ensures (d .if2 .taken) in
+    short-packed (now (a .starts)) (now (a .widths)) (now (a .numbers)) (now (a .out)) _ (p .0) (p .1) (p .2) (r .0) (r .1)
+    (c .before .before .lay-word .ensures ∙ ap (bytesWith (bit (w .pack-word .result .word))) (length-take-le 8 (now (a .out)) (r .1)) ∙ p .3)
 
 pub pack-spec : {M : Type 1} → statement M
 pack-spec =
     tie.close
-    (tie.spec (λ c κs. search needs) returns (λ c κs. search needs) returns-2 too-wide-requires returns-3 slice-relend-prefix-pack-into
-    slice-aggregate-pack-into pack-into-requires (λ c. search needs) (λ c. search needs) returns-4)
+    (tie.spec (λ c κs. search needs) pack-word-requires slice-relend-prefix-lay-word slice-aggregate-lay-word (λ c κs. search needs) (λ c. search needs) returns
+    (λ c κs. search needs) (λ c. search needs) (λ c. search needs))
