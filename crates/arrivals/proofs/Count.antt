@@ -4,13 +4,13 @@ use Prim.Native.Nat.{ℕ, zero, suc, _+_, _-_, _≤_, _<_}
 use native.Mathlib.Omega.{arith}
 use native.Mathlib.Decide.{decLt, ℕ-discrete}
 use mathlib.Core.Path.{_≡_, refl, sym, ap, _∙_}
-use mathlib.Core.Bool.{Bool, true, false, cond, not, _&&_, and-true, and-false, or-true, or-false, and-eq-true-iff}
-use mathlib.Core.Option.{none, some}
+use mathlib.Core.Bool.{Bool, true, false, cond, _&&_, and-true, and-false, or-true, or-false, and-eq-true-iff}
+use mathlib.Core.Option.{none}
 use mathlib.Core.List.{List, [], _∷_}
 use borrow.Author.Tests.{ltb-true, eqb-true, eqb-false, lt-ltb, le-ltb, le-leb, lt-leb, eq-eqb, ne-eqb}
 use lib.Dec.{eqb, ltb, leb}
 use lib.ListN.{length}
-use Rattle.words.specs.First.{first, any}
+use Rattle.words.specs.First.{any}
 use Rattle.words.specs.Rising.{has, startsAbove, rising, insert}
 use Rattle.words.specs.Runs.{only}
 use Rattle.words.specs.Slots.{slot, view}

@@ -4,10 +4,11 @@ use mathlib.Core.Path.{_≡_, refl, sym, ap, _∙_}
 use mathlib.Core.Bool.{Bool, true, false, cond, not, _&&_, _||_, or-true}
 use mathlib.Core.List.{List, _++_}
 use lib.Dec.{eqb, ltb}
-use lib.ListN.{length, drop}
+use lib.ListN.{length, take, drop, length-take}
+use native.Mathlib.Nat.{min-le-right}
 use native.Mathlib.Omega.{arith}
 use borrow.Author.Tests.{eq-eqb, ne-eqb, ltb-false, lt-ltb, le-ltb, not-false}
-use Rattle.answers.specs.Answers.{Said, at, plain, done, unusable, Outcome, outcome}
+use Rattle.answers.specs.Answers.{Said, at, plain, done, unusable, outcome}
 use Rattle.payload.specs.declared.Laying.{Laying}
 use Rattle.payload.specs.Calls.{Left, left, tooWideIn, packing, reading}
 use Rattle.payload.proofs.Laws.{read-length}
@@ -21,7 +22,7 @@ use Rattle.answers.proofs.Tests.{None}
 use Rattle.words.proofs.Tests.{test}
 use Rattle.open.specs.Open.{isHeld, judgedBy}
 use Rattle.ask.specs.Ask.{keyTests, packTests, packDone, packedBy, reads, readTests, numbersIn, readDone, readBy, notFound, positionOf, findTests, foundBy, nowhere, standsBy}
-use Rattle.ask.specs.Parts.{readyBy, saidBy, asOutcome, withStates, readWith}
+use Rattle.ask.specs.Parts.{readyBy, InHand, saidBy, asOutcome, withStates, readWith}
 
 module _ (widthOf : ℕ → ℕ) (m : Map) where
   -- usable is held with judgement 0
@@ -208,14 +209,31 @@ module _ (widthOf : ℕ → ℕ) (most : (x : ℕ) → widthOf x ≤ 32) (m : Ma
       test (ltb (length states) (countOf m)) (λ s. rw (lists-length widthOf m .1, s) (no-states payload room states s))
       (λ s. rw (lists-length widthOf m .1, s) (ap (withStates (widthsOf widthOf m) states) (reading-is payload room) ∙ told-states payload room states s))
 
-  module _ (starts widths : List ℕ) (l : (starts ≡ startsOf widthOf m) × (widths ≡ widthsOf widthOf m)) (laying : Laying) (a : Said) (e : a ≡ saidBy laying) where
-    pub pack-told : (numbers out held : List ℕ) → left laying out ≡ packing starts widths numbers held → outcome a out ≡ packedBy widthOf m numbers held
-    pack-told numbers out held f = ap (λ (x : Said). outcome x out) e ∙ ap asOutcome f ∙ rw (l .0, l .1) (packing-is numbers held)
+-- a map in hand that passed the tests 11 and 12: it is usable, and payload's calls go by its lists
+module _ (widthOf : ℕ → ℕ) (m : Map) (a : Said) (n : ℕ) (starts widths : List ℕ) (h : InHand widthOf m a n starts widths) (z : a .number ≡ 0) where
+  good : usable widthOf m ≡ true
+  good = ready-usable widthOf m (sym (ap (λ (x : Said). x .number) (h .said)) ∙ z)
 
-  -- what reading by its lists leaves
-  pub read-told : (starts widths : List ℕ) → (starts ≡ startsOf widthOf m) × (widths ≡ widthsOf widthOf m) → (payload room states : List ℕ)
-      → readWith starts widths payload room states ≡ readBy widthOf m payload room states
-  read-told starts widths l payload room states = rw (l .0, l .1) (with-is payload room states)
+  room : (xs ys : List ℕ) → take n xs ≡ ys → length ys ≡ countOf m → n ≤ length xs
+  room xs ys e l = omega (arith, min-le-right n (length xs), length-take n xs, ap length e, l, h .count good .0)
+
+  pub starts-room : n ≤ length starts
+  starts-room = room starts _ (h .lists good .0) (lists-length widthOf m .1)
+
+  pub widths-room : n ≤ length widths
+  widths-room = room widths _ (h .lists good .1) (lists-length widthOf m .2)
+
+  module _ (most : (x : ℕ) → widthOf x ≤ 32) where
+    few : countOf m ≤ 64
+    few = omega (arith, h .count good .0, h .count good .1)
+
+    pub pack-told : (laying : Laying) (b : Said) → b ≡ saidBy laying → (numbers out held : List ℕ)
+        → left laying out ≡ packing (take n starts) (take n widths) numbers held → outcome b out ≡ packedBy widthOf m numbers held
+    pack-told laying b e numbers out held f =
+        ap (λ (x : Said). outcome x out) e ∙ ap asOutcome f ∙ rw (h .lists good .0, h .lists good .1) (packing-is widthOf most m good few numbers held)
+
+    pub read-told : (payload room states : List ℕ) → readWith (take n starts) (take n widths) payload room states ≡ readBy widthOf m payload room states
+    read-told payload room states = rw (h .lists good .0, h .lists good .1) (with-is widthOf most m good few payload room states)
 
 -- finding in a usable map
 module _ (widthOf : ℕ → ℕ) (m : Map) (u : usable widthOf m ≡ true) (spn : ℕ) (a : Said) (p : ℕ) (its : p ≡ positionOf widthOf m spn) where

@@ -10,14 +10,14 @@ ghost use Rattle.judge.specs.Judge.{countOf};
 ghost use Rattle.keyrow.specs.Row.{rowWords, positions, keyOf};
 ghost use Rattle.open.specs.Open.{widthFor, judgedBy};
 ghost use Rattle.ask.specs.Ask.{packedBy, reads, readBy, foundIn, notFound, foundBy, standingIn, nowhere, standsBy};
-ghost use Rattle.ask.specs.Parts.{readyBy, cellAt, saidBy, readWith};
+ghost use Rattle.ask.specs.Parts.{readyBy, InHand, cellAt, saidBy, readWith};
 use answers::Answer;
 use answers::Judgement;
 use keyrow::FORM;
 use keyrow::HELD;
 use keyrow::POSITIONS;
 use keyrow::STATE;
-use lookup::WORDS;
+use lookup::Table;
 use payload::Laying;
 ghost use Rattle.lookup.specs.View.{mapIn};
 
@@ -51,6 +51,32 @@ fn ready(answer: Answer) -> Answer
         return answers::not_usable(judgement);
     }
     answers::plainly(0) // usable
+}
+
+// What pack and read begin with: 11, 12, else 0; and n.
+struct Lists {
+    answer: Answer,
+    n: usize,
+}
+
+// Opens a key's map for its payloads. Where it is usable, the starts and widths of its n parameters stand over the start of the arrays.
+fn lists_of(
+    t: &Table,
+    source: u8,
+    destination: u8,
+    k: u8,
+    starts: &mut [u32; POSITIONS],
+    widths: &mut [u32; POSITIONS],
+) -> Lists
+    ensures { λ r. ⌜ InHand (widthFor (now (t .entry)) (keyOf source destination k)) (mapIn (now (t .entry)) (keyOf source destination k))
+        (inNumbers (r .answer)) (r .n) (now (starts .exit)) (now (widths .exit)) ⌝ }
+{
+    let mut spns = [0u32; POSITIONS];
+    let map = open::open(t, source, destination, k, &mut spns, starts, widths);
+    Lists {
+        answer: ready(map.answer),
+        n: map.n as usize,
+    }
 }
 
 // What packing or reading told, in 01's numbers. Of a usable map each position has its place (law usable-placed), so that Unplaced never comes.
@@ -141,7 +167,7 @@ fn absent(answer: Answer) -> Parameter
 // ---- the calls
 
 // The number of parameters of a key's map; 0 where it is in conflict, or not held.
-pub fn count(t: &[u64; WORDS], source: u8, destination: u8, k: u8) -> u8
+pub fn count(t: &Table, source: u8, destination: u8, k: u8) -> u8
     ensures { λ r. ⌜ r ≡ countOf (mapIn (now (t .entry)) (keyOf source destination k)) ⌝ }
 {
     let row = lookup::row_of(t, source, destination, k);
@@ -156,7 +182,7 @@ pub fn count(t: &[u64; WORDS], source: u8, destination: u8, k: u8) -> u8
 }
 
 // Judges a key's map: 11, else 0 with the judgement.
-pub fn judge(t: &[u64; WORDS], source: u8, destination: u8, k: u8) -> Answer
+pub fn judge(t: &Table, source: u8, destination: u8, k: u8) -> Answer
     ensures { λ r. ⌜ inNumbers r ≡ judgedBy (widthFor (now (t .entry)) (keyOf source destination k)) (mapIn (now (t .entry)) (keyOf source destination k)) ⌝ }
 {
     let mut spns = [0u32; POSITIONS];
@@ -177,7 +203,7 @@ pub fn judge(t: &[u64; WORDS], source: u8, destination: u8, k: u8) -> Answer
 // Packs numbers by a key's map into the first L bytes of `out`: 11, 12, 13, 14, else 0 with L. Every test is made before the first byte is
 // written.
 pub fn pack(
-    t: &[u64; WORDS],
+    t: &Table,
     source: u8,
     destination: u8,
     k: u8,
@@ -187,30 +213,21 @@ pub fn pack(
     ensures { λ r. ⌜ outcome (inNumbers r) (now (out .exit))
         ≡ packedBy (widthFor (now (t .entry)) (keyOf source destination k)) (mapIn (now (t .entry)) (keyOf source destination k)) (now (numbers .entry)) (now (out .entry)) ⌝ }
 {
-    let mut spns = [0u32; POSITIONS];
     let mut starts = [0u32; POSITIONS];
     let mut widths = [0u32; POSITIONS];
-    let map = open::open(
-        t,
-        source,
-        destination,
-        k,
-        &mut spns,
-        &mut starts,
-        &mut widths,
-    );
-    let answer = ready(map.answer);
+    let lists = lists_of(t, source, destination, k, &mut starts, &mut widths);
+    let answer = lists.answer;
     if answer.number != 0 { // 11 or 12, before 13 and 14
         return answer;
     }
-    let n = map.n as usize;
+    let n = lists.n;
     told(payload::pack(&starts[..n], &widths[..n], numbers, out))
 }
 
 // Reads a payload by a key's map into the first n places of `room`, and lays the state of each number into the first n of `states`: 11, 12, 13, else 0 with n. Every test
 // is made before the first number is written.
 pub fn read(
-    t: &[u64; WORDS],
+    t: &Table,
     source: u8,
     destination: u8,
     k: u8,
@@ -221,28 +238,19 @@ pub fn read(
     ensures { λ r. ⌜ reads (inNumbers r) (now (room .exit)) (now (states .exit))
         ≡ readBy (widthFor (now (t .entry)) (keyOf source destination k)) (mapIn (now (t .entry)) (keyOf source destination k)) (now (payload .entry)) (now (room .entry)) (now (states .entry)) ⌝ }
 {
-    let mut spns = [0u32; POSITIONS];
     let mut starts = [0u32; POSITIONS];
     let mut widths = [0u32; POSITIONS];
-    let map = open::open(
-        t,
-        source,
-        destination,
-        k,
-        &mut spns,
-        &mut starts,
-        &mut widths,
-    );
-    let answer = ready(map.answer);
+    let lists = lists_of(t, source, destination, k, &mut starts, &mut widths);
+    let answer = lists.answer;
     if answer.number != 0 { // 11 or 12, before 13
         return answer;
     }
-    let n = map.n as usize;
+    let n = lists.n;
     read_with(&starts[..n], &widths[..n], payload, room, states)
 }
 
 // Finds an SPN in a key's map: 11, 12, 18, else 0 with position, start and width.
-pub fn find(t: &[u64; WORDS], source: u8, destination: u8, k: u8, spn: u32) -> Found
+pub fn find(t: &Table, source: u8, destination: u8, k: u8, spn: u32) -> Found
     ensures { λ r. ⌜ foundIn r ≡ foundBy (widthFor (now (t .entry)) (keyOf source destination k)) (mapIn (now (t .entry)) (keyOf source destination k)) spn ⌝ }
 {
     let mut spns = [0u32; POSITIONS];
@@ -275,7 +283,7 @@ pub fn find(t: &[u64; WORDS], source: u8, destination: u8, k: u8, spn: u32) -> F
 }
 
 // The parameter at a position of a key's map, usable or not: 11, 18 where nothing stands there, else 0 with SPN, start and width.
-pub fn parameter_at(t: &[u64; WORDS], source: u8, destination: u8, k: u8, position: u8) -> Parameter
+pub fn parameter_at(t: &Table, source: u8, destination: u8, k: u8, position: u8) -> Parameter
     ensures { λ r. ⌜ standingIn r ≡ standsBy (widthFor (now (t .entry)) (keyOf source destination k)) (mapIn (now (t .entry)) (keyOf source destination k)) position ⌝ }
 {
     let row = lookup::row_of(t, source, destination, k);

@@ -1,6 +1,6 @@
 -- What the bridge's calls answer and leave (02, Req 09), on any words: the counters of twelve pairs, the queues of four ports, and the filters beside them.
 -- Assumes nothing.
-use mathlib.Core.Bool.{Bool, true, false, _&&_, cond}
+use mathlib.Core.Bool.{Bool, _&&_, cond}
 use mathlib.Core.List.{List}
 use Prim.Native.Nat.{ℕ, _+_, _*_, _-_}
 use lib.Dec.{eqb, leb}

@@ -11,12 +11,18 @@ ghost use Rattle.bridge.specs.Bridge.{bridge, freshBridge, isPort, first
 use answers::Answer;
 use counters::Counters;
 use counters::Fate;
+use ports::Filters;
 
 // The words of the counters, six for each of twelve pairs.
 pub const COUNTERS: usize = 72;
 
 // The words of the queues, 65 for each of four ports.
 pub const QUEUES: usize = 260;
+
+// Both as the caller lends them.
+pub type CounterWords = [u64; COUNTERS];
+
+pub type QueueWords = [u64; QUEUES];
 
 // The words of the counters of the three pairs from a port.
 const COUNTERS_FROM: usize = 18;
@@ -103,9 +109,9 @@ fn note(c: &mut [u64], from: u8, k: usize, fate: Fate)
 
 // Offers a frame to a port's k-th other, whose queue has the number `port`, and counts what becomes of it: it is filtered, then queued where fewer than 64 wait there, else turned away.
 fn offer_to(
-    c: &mut [u64; COUNTERS],
-    q: &mut [u64; QUEUES],
-    w: &[u32; ports::WORDS],
+    c: &mut CounterWords,
+    q: &mut QueueWords,
+    w: &Filters,
     from: u8,
     k: usize,
     port: usize,
@@ -140,13 +146,7 @@ fn refuse(c: &mut [u64], from: u8)
 }
 
 // Takes a frame that came in at a port: it is offered to the three other ports, rising. Its identifier is tested and its PGN found once for all three.
-pub fn offer(
-    c: &mut [u64; COUNTERS],
-    q: &mut [u64; QUEUES],
-    w: &[u32; ports::WORDS],
-    from: u8,
-    id: u32,
-) -> Offered
+pub fn offer(c: &mut CounterWords, q: &mut QueueWords, w: &Filters, from: u8, id: u32) -> Offered
     ensures { λ r. ⌜ offers r (bridge (now (c .exit)) (now (q .exit)))
         ≡ offered (bridge (now (c .entry)) (now (q .entry))) (now (w .entry)) from id ⌝ }
 {
@@ -170,8 +170,8 @@ pub fn offer(
 // A slot of a port: 15 where it is none; 0 with detail 0 where no frame waits there; else the earliest of the highest priority leaves, and 0 with detail 1, and `from` and `id` are
 // where it came from and its identifier. In the other cases they stay.
 pub fn slot(
-    c: &mut [u64; COUNTERS],
-    q: &mut [u64; QUEUES],
+    c: &mut CounterWords,
+    q: &mut QueueWords,
     port: u8,
     from: &mut u8,
     id: &mut u32,
@@ -196,7 +196,7 @@ pub fn slot(
 // ---- what stands in the words
 
 // The counters of a pair and what waits: 15, or 0.
-pub fn pair(c: &[u64; COUNTERS], q: &[u64; QUEUES], from: u8, to: u8) -> Standing
+pub fn pair(c: &CounterWords, q: &QueueWords, from: u8, to: u8) -> Standing
     ensures { λ r. ⌜ standingAs r ≡ standing (bridge (now (c .entry)) (now (q .entry))) from to ⌝ }
 {
     let i = ports::pair_of(from, to);
@@ -217,7 +217,7 @@ pub fn pair(c: &[u64; COUNTERS], q: &[u64; QUEUES], from: u8, to: u8) -> Standin
 }
 
 // Makes counters that are all 0, and queues in which nothing waits.
-pub fn fresh(c: &mut [u64; COUNTERS], q: &mut [u64; QUEUES])
+pub fn fresh(c: &mut CounterWords, q: &mut QueueWords)
     ensures { λ _. ⌜ bridge (now (c .exit)) (now (q .exit)) ≡ freshBridge ⌝ }
 {
     words::clear(c);

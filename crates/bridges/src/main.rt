@@ -11,16 +11,18 @@
 //   9 queue                        the 65 words of a queue, from 0 on
 use answers::Answer;
 use bridge::COUNTERS;
+use bridge::CounterWords;
 use bridge::Offered;
 use bridge::QUEUES;
-use libc::STDIN_FILENO;
+use bridge::QueueWords;
 use libc::STDOUT_FILENO;
 use lines::end;
 use lines::first;
 use lines::four;
-use lines::long;
+use lines::longs;
 use lines::more;
 use lines::two;
+use ports::Filters;
 use ports::WORDS;
 
 // What one of the three ports answered.
@@ -29,7 +31,7 @@ fn port(a: Answer) {
     more(a.detail);
 }
 
-fn offer(c: &mut [u64; COUNTERS], q: &mut [u64; QUEUES], w: &[u32; WORDS], b: &[u8; 16]) {
+fn offer(c: &mut CounterWords, q: &mut QueueWords, w: &Filters, b: &[u8; 16]) {
     match bridge::offer(c, q, w, b[1], four(b[2], b[3], b[4], b[5])) {
         Offered::To(x, y, z) => {
             first(0);
@@ -47,7 +49,7 @@ fn offer(c: &mut [u64; COUNTERS], q: &mut [u64; QUEUES], w: &[u32; WORDS], b: &[
     end();
 }
 
-fn slot(c: &mut [u64; COUNTERS], q: &mut [u64; QUEUES], b: &[u8; 16]) {
+fn slot(c: &mut CounterWords, q: &mut QueueWords, b: &[u8; 16]) {
     let mut from = b[2];
     let mut id = four(b[3], b[4], b[5], b[6]);
     let a = bridge::slot(c, q, b[1], &mut from, &mut id);
@@ -58,22 +60,26 @@ fn slot(c: &mut [u64; COUNTERS], q: &mut [u64; QUEUES], b: &[u8; 16]) {
     end();
 }
 
-fn pair(c: &[u64; COUNTERS], q: &[u64; QUEUES], b: &[u8; 16]) {
+fn pair(c: &CounterWords, q: &QueueWords, b: &[u8; 16]) {
     let s = bridge::pair(c, q, b[1], b[2]);
     let a = s.answer;
     let k = s.counters;
     first(a.number);
-    long(k.arrived);
-    long(k.filtered);
-    long(k.queued);
-    long(k.sent);
-    long(k.turned);
-    long(k.refused);
-    long(s.waiting);
+    longs(
+        &[
+            k.arrived,
+            k.filtered,
+            k.queued,
+            k.sent,
+            k.turned,
+            k.refused,
+            s.waiting,
+        ],
+    );
     end();
 }
 
-fn command(w: &mut [u32; WORDS], b: &[u8; 16]) {
+fn command(w: &mut Filters, b: &[u8; 16]) {
     let pgn = four(b[3], b[4], b[5], 0);
     if b[0] == 4 {
         let a = ports::add(w, b[1], b[2], pgn);
@@ -96,39 +102,30 @@ fn word(low: u32, high: u32) -> u64 {
     low as u64 + high as u64 * 4294967296
 }
 
-fn put_counter(c: &mut [u64; COUNTERS], at: usize, word: u64) {
+fn put_counter(c: &mut CounterWords, at: usize, word: u64) {
     if at < COUNTERS {
         c[at] = word;
     }
 }
 
-fn put_queue(q: &mut [u64; QUEUES], at: usize, word: u64) {
+fn put_queue(q: &mut QueueWords, at: usize, word: u64) {
     if at < QUEUES {
         q[at] = word;
     }
 }
 
-// Further words of a line.
-fn words(list: &[u64]) {
-    let mut i = 0;
-    while i < list.len() {
-        long(list[i]);
-        i += 1;
-    }
-}
-
 // The 65 words of a queue.
-fn show(q: &[u64; QUEUES], k: usize) {
+fn show(q: &QueueWords, k: usize) {
     let all = &q[..];
     if k < 4 {
         let a = k * 65;
         io::print_decimal(STDOUT_FILENO, all[a]);
-        words(&all[a + 1..a + 65]);
+        longs(&all[a + 1..a + 65]);
         end();
     }
 }
 
-fn run(c: &mut [u64; COUNTERS], q: &mut [u64; QUEUES], w: &mut [u32; WORDS], b: &[u8; 16]) {
+fn run(c: &mut CounterWords, q: &mut QueueWords, w: &mut Filters, b: &[u8; 16]) {
     match b[0] {
         0 => {
             bridge::fresh(c, q);
@@ -155,24 +152,15 @@ fn run(c: &mut [u64; COUNTERS], q: &mut [u64; QUEUES], w: &mut [u32; WORDS], b: 
     }
 }
 
-// Reads one case and runs it; false where the input ends.
-fn case(c: &mut [u64; COUNTERS], q: &mut [u64; QUEUES], w: &mut [u32; WORDS]) -> bool {
-    let mut b = [0u8; 16];
-    let n = io::read_full(STDIN_FILENO, &mut b);
-    if n < 16 {
-        return false;
-    }
-    run(c, q, w, &b);
-    true
-}
-
 // What the calls are lent stands here. A proved loop has to end, so it counts its turns down, from a number that no run uses up.
 fn main() {
     let mut c = [0u64; COUNTERS];
     let mut q = [0u64; QUEUES];
     let mut w = [0u32; WORDS];
+    let mut b = [0u8; 16];
     let mut turns = u64::MAX;
-    while turns > 0 && case(&mut c, &mut q, &mut w) {
+    while turns > 0 && lines::case(&mut b) {
+        run(&mut c, &mut q, &mut w, &b);
         turns -= 1;
     }
 }

@@ -9,7 +9,8 @@ ghost use Rattle.counters.specs.Words.{noCounters, countersIn, wordsOf, 
 // The words of a pair.
 pub const PAIR_WORDS: usize = 6;
 
-// The counters of a pair.
+// The counters of a pair. (`repr(C)`: firmware hands them to C as they are.)
+#[repr(C)]
 pub struct Counters {
     pub arrived: u64,
     pub filtered: u64,

@@ -15,9 +15,9 @@ use Rattle.words.specs.Halve.{halved}
 use Rattle.words.proofs.First.{first-below}
 use Rattle.words.proofs.Tests.{test, never}
 use Rattle.words.proofs.Halve.{halved-key}
-use Rattle.rowrule.specs.Rows.{rowIn, rowsBy, pairs, pairs2004, rowsIn}
+use Rattle.rowrule.specs.Rows.{Row, rowIn, rowsBy, pairs, pairs2004, rowsIn}
 use Rattle.rowrule.proofs.Table.{size, size-2004, rows-ruled, pairs-back, pairs-back-2004, rows-size}
-use Rattle.dictionary.specs.Dictionary.{widthIn, numberIn, Lent}
+use Rattle.dictionary.specs.Dictionary.{widthIn, widthBy, widthsOver, numberIn, Lent}
 use Rattle.dictionary.proofs.Lookup.{Has, looked, at-found, at-none, none-found}
 use Rattle.dictionary.proofs.Rule.{rising, found}
 
@@ -63,6 +63,11 @@ module _ (ps : List (List ℕ)) (edition : ℕ) where
 
   pub rows-2010 : ps ≡ pairs → (edition ≡ 2004 → ⊥) → rowsIn ps ≡ rowsBy edition
   rows-2010 e n = rw (ne-eqb edition 2004 n) (ap rowsIn e ∙ pairs-back)
+
+  -- what is laid by these rows is laid by that edition
+  pub laid-by : (spns held : List ℕ) → rowsIn ps ≡ rowsBy edition → widthsOver (widthIn (rowsIn ps)) spns held ≡ widthsOver (widthBy edition) spns held
+  unfolding widthBy
+  laid-by spns held e = ap (λ (rows : List Row). widthsOver (widthIn rows) spns held) e
 
   -- they may be lent
   may-lend : rowsIn ps ≡ rowsBy edition → Lent ps

@@ -24,6 +24,13 @@ pub struct Entry {
 
 // ---- in rows that are lent
 
+// A number of a row: rows are kept narrow, since every look-up lays them out.
+fn wide(x: u16) -> u32
+    ensures { λ r. ⌜ r ≡ x ⌝ }
+{
+    x as u32
+}
+
 // What a turn of halving goes down by: half of the rows that are left, or nothing. A step that is subtracted compiles to fewer jumps than a branch that
 // sets the place, and a jump of a search is one that no processor foresees (docs/landings/req-02.md).
 fn step(down: bool, half: usize) -> usize
@@ -37,7 +44,7 @@ fn step(down: bool, half: usize) -> usize
 
 // Where the SPN stands in a dictionary, whose rows are lent. The promise says nothing of the way: here by halving. n rows are left, the last of
 // them at `hi`, and a turn leaves half of them, rounded up: 140 rows take 8 turns (law table-turns).
-fn row_in(rows: &[[u32; 2]], spn: u32) -> Found
+fn row_in(rows: &[[u16; 2]], spn: u32) -> Found
     requires { ⌜ Lent (now rows) ⌝ }
     ensures { λ r. ⌜ foundRow r ≡ numberIn (rowsIn (now (rows .entry))) spn ⌝ }
 {
@@ -46,18 +53,18 @@ fn row_in(rows: &[[u32; 2]], spn: u32) -> Found
     while 1 < n {
         let half = n / 2;
         let row = rows[hi - half];
-        hi -= step(spn <= row[0], half);
+        hi -= step(spn <= wide(row[0]), half);
         n -= half;
     }
     let row = rows[hi];
-    if row[0] == spn {
+    if wide(row[0]) == spn {
         return Found::At(hi);
     }
     Found::Nothing
 }
 
 // The row that has the SPN by the same rows, and its width; 0 where none has it.
-fn entry_in(rows: &[[u32; 2]], spn: u32) -> Entry
+fn entry_in(rows: &[[u16; 2]], spn: u32) -> Entry
     requires { ⌜ Lent (now rows) ⌝ }
     ensures { λ r. ⌜ (foundRow (r .found) ≡ numberIn (rowsIn (now (rows .entry))) spn) × (r .width ≡ widthIn (rowsIn (now (rows .entry))) spn) ⌝ }
 {
@@ -67,7 +74,7 @@ fn entry_in(rows: &[[u32; 2]], spn: u32) -> Entry
             let row = rows[i];
             Entry {
                 found,
-                width: row[1],
+                width: wide(row[1]),
             }
         }
         Found::Nothing => Entry { found, width: 0 },
@@ -75,7 +82,7 @@ fn entry_in(rows: &[[u32; 2]], spn: u32) -> Entry
 }
 
 // The width alone.
-fn width_in(rows: &[[u32; 2]], spn: u32) -> u32
+fn width_in(rows: &[[u16; 2]], spn: u32) -> u32
     requires { ⌜ Lent (now rows) ⌝ }
     ensures { λ r. ⌜ r ≡ widthIn (rowsIn (now (rows .entry))) spn ⌝ }
 {
@@ -84,7 +91,7 @@ fn width_in(rows: &[[u32; 2]], spn: u32) -> u32
 }
 
 // The widths of many SPNs.
-fn widths_in(rows: &[[u32; 2]], spns: &[u32], widths: &mut [u32])
+fn widths_in(rows: &[[u16; 2]], spns: &[u32], widths: &mut [u32])
     requires { ⌜ Lent (now rows) ⌝ }
     ensures { λ _. ⌜ now (widths .exit) ≡ widthsOver (widthIn (rowsIn (now (rows .entry)))) (now (spns .entry)) (now (widths .entry)) ⌝ }
 {

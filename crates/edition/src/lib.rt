@@ -16,7 +16,7 @@ use keyrow::EDITION_2010;
 use keyrow::FORM;
 use keyrow::ROW_WORDS;
 use lookup::ROWS;
-use lookup::WORDS;
+use lookup::Table;
 
 // Whether a number is one of the two editions.
 fn is_edition(edition: u32) -> bool
@@ -35,7 +35,7 @@ fn edit_at(t: &mut [u64], i: usize, edition: u32)
 }
 
 // Gives a held key another edition, 2004 or 2010: 11, 27 where it is neither, else 0.
-pub fn set_edition(t: &mut [u64; WORDS], source: u8, destination: u8, k: u8, edition: u32) -> Answer
+pub fn set_edition(t: &mut Table, source: u8, destination: u8, k: u8, edition: u32) -> Answer
     ensures { λ r. ⌜ outcome (inNumbers r) (now (t .exit)) ≡ edited (now (t .entry)) (keyNumber (keyOf source destination k)) edition ⌝ }
 {
     let i = lookup::slot_of(t, source, destination, k);

@@ -5,12 +5,14 @@ use Prim.Native.Nat.{ℕ}
 use mathlib.Core.List.{List, [], _∷_, _++_}
 use lib.ListN.{length}
 use Rattle.answers.specs.Answers.{Outcome}
-use Rattle.record.specs.Record.{recordIn}
+use Rattle.record.specs.Record.{size, recordIn}
+use Rattle.record.specs.Sized.{begunBy}
 use Rattle.record.specs.Cut.{leftOf, over}
 use Rattle.record.specs.Chunk.{carried, padded}
 use Rattle.table.specs.Learn.{learnt}
 use Rattle.feeding.specs.declared.Counts.{Counts}
 use Rattle.feeding.specs.declared.Tally.{Tally}
+use Rattle.feeding.specs.declared.Begun.{Begun}
 use Rattle.feeding.specs.Counts.{noCounts, withAnswer}
 
 -- ---- one record
@@ -40,6 +42,12 @@ tallyOf c left = record { counts = c; left = length left; carry = padded left }
 -- nothing read yet
 abbrev pub started : Tally
 started = tallyOf noCounts []
+
+-- a tally with a chunk behind the bytes that it carries: as many of them as make a record, and how many were taken
+abbrev pub begun : Tally → List ℕ → Begun
+begun s chunk =
+    let b = begunBy size (s .left) (length chunk) in
+    record { tally = record { counts = s .counts; left = b .left; carry = padded (carried (s .left) (s .carry) ++ chunk) }; taken = b .taken }
 
 -- the words and the tally, as one value
 pub record Fed : Type 0 where

@@ -19,11 +19,9 @@ use Rattle.firmware.specs.declared.Brought.{Brought}
 use Rattle.firmware.specs.declared.Counted.{Counted}
 use Rattle.firmware.specs.declared.Held.{Held}
 use Rattle.firmware.specs.declared.Located.{Located}
-use Rattle.firmware.specs.declared.Log.{Log}
 use Rattle.firmware.specs.declared.Pair.{Pair}
 use Rattle.firmware.specs.declared.Placed.{Placed}
-use Rattle.firmware.specs.declared.Trace.{Trace}
-use Rattle.firmware.specs.Told.{saidTo, toldOf, findingTo, standingTo, lineTo, heldOf, tallyIn, broughtTo, answersIn, pairTo, dayIn}
+use Rattle.firmware.specs.Told.{saidTo, toldOf, findingTo, standingTo, lineTo, heldOf, broughtTo, answersIn, pairTo}
 
 -- one answer in 01's numbers, one struct
 pub same-told : (a b : Told) → saidTo a ≡ saidTo b → a ≡ b
@@ -49,18 +47,7 @@ same-standing a b e =
 pub same-line : (a b : Counted) → lineTo a ≡ lineTo b → a ≡ b
 same-line a b e =
     let t = same-told (a .told) (b .told) (ap (λ (l : Lined). l .answer) e) in
-    λ i. record {
-      told = t i;
-      read = e i .cell .read;
-      valid = e i .cell .valid;
-      reserved = e i .cell .reserved;
-      error = e i .cell .error;
-      missing = e i .cell .missing;
-      least = e i .cell .least;
-      greatest = e i .cell .greatest;
-      sum = e i .cell .sum;
-      spn = e i .spn;
-    }
+    λ i. record { told = t i; cell = e i .cell; spn = e i .spn }
 
 -- one struct, one key or none
 pub same-held : (a b : Option Key) → heldOf a ≡ heldOf b → a ≡ b
@@ -68,11 +55,6 @@ same-held none none e = refl
 same-held none (some k) e = let z = ap (λ (h : Held). h .held) e in absurd (omega arith)
 same-held (some j) none e = let z = ap (λ (h : Held). h .held) e in absurd (omega arith)
 same-held (some j) (some k) e = λ i. some (record { source = e i .source; destination = e i .destination; k = e i .k })
-
--- one tally, one log that C keeps
-pub same-log : (a b : Log) → tallyIn a ≡ tallyIn b → a ≡ b
-same-log a b e =
-    λ i. record { records = e i .counts .records; refused = e i .counts .refused; other = e i .counts .other; left = e i .left; carry = e i .carry }
 
 -- one answer to a packet, one struct
 pub same-brought : (a b : Brought) → (m : Memory) → (out : List ℕ) → broughtTo a m out ≡ broughtTo b m out → a ≡ b
@@ -93,27 +75,4 @@ same-answered a b e =
 pub same-pair : (a b : Pair) → pairTo a ≡ pairTo b → a ≡ b
 same-pair a b e =
     let t = same-told (a .told) (b .told) (ap (λ (s : Stands). s .answer) e) in
-    λ i. record {
-      told = t i;
-      arrived = e i .counters .arrived;
-      filtered = e i .counters .filtered;
-      queued = e i .counters .queued;
-      sent = e i .counters .sent;
-      turned = e i .counters .turned;
-      refused = e i .counters .refused;
-      waiting = e i .waiting;
-    }
-
--- one tally, one trace that C keeps
-pub same-trace : (a b : Trace) → dayIn a ≡ dayIn b → a ≡ b
-same-trace a b e =
-    λ i. record {
-      events = e i .counts .events;
-      frames = e i .counts .frames;
-      slots = e i .counts .slots;
-      commands = e i .counts .commands;
-      refused = e i .counts .refused;
-      other = e i .counts .other;
-      left = e i .left;
-      carry = e i .carry;
-    }
+    λ i. record { told = t i; counters = e i .counters; waiting = e i .waiting }

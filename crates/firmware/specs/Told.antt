@@ -8,21 +8,17 @@ use Rattle.answers.specs.declared.Answer.{Answer}
 use Rattle.message.specs.declared.Key.{Key}
 use Rattle.firmware.specs.declared.Told.{Told}
 use Rattle.ask.specs.Ask.{Finding, Standing}
-use Rattle.feeding.specs.declared.Tally.{Tally}
 use Rattle.bridge.specs.Bridge.{Answers, answers, Stands, stands}
-use Rattle.replaying.specs.declared.Tally.{Tally as Day}
 use Rattle.firmware.specs.declared.Answered.{Answered}
 use Rattle.firmware.specs.declared.Brought.{Brought}
 use Rattle.firmware.specs.declared.Counted.{Counted}
 use Rattle.firmware.specs.declared.Held.{Held}
 use Rattle.firmware.specs.declared.Located.{Located}
-use Rattle.firmware.specs.declared.Log.{Log}
 use Rattle.firmware.specs.declared.Meant.{Meant}
 use Rattle.firmware.specs.declared.Measured.{Measured}
 use Rattle.firmware.specs.declared.Pair.{Pair}
 use Rattle.firmware.specs.declared.Placed.{Placed}
 use Rattle.firmware.specs.declared.Row.{Row}
-use Rattle.firmware.specs.declared.Trace.{Trace}
 use Rattle.hire.specs.Line.{Lined}
 use Rattle.image.specs.Part.{Entry}
 use Rattle.meaning.specs.declared.Meaning.{Meaning}
@@ -71,33 +67,12 @@ rowTo r = record {
 
 -- a line of the report of a hire
 abbrev pub lineTo : Counted → Lined
-lineTo l = record {
-  answer = saidTo (l .told);
-  spn = l .spn;
-  cell = record {
-    read = l .read;
-    valid = l .valid;
-    reserved = l .reserved;
-    error = l .error;
-    missing = l .missing;
-    least = l .least;
-    greatest = l .greatest;
-    sum = l .sum;
-  };
-}
+lineTo l = record { answer = saidTo (l .told); spn = l .spn; cell = l .cell }
 
 -- a held key: 1 and the key, or four times 0
 abbrev pub heldOf : Option Key → Held
 heldOf (some k) = record { held = 1; source = k .source; destination = k .destination; k = k .k }
 heldOf none = record { held = 0; source = 0; destination = 0; k = 0 }
-
--- what is kept of a log
-abbrev pub tallyIn : Log → Tally
-tallyIn l = record {
-  counts = record { records = l .records; refused = l .refused; other = l .other };
-  left = l .left;
-  carry = l .carry;
-}
 
 -- what a packet is answered, as C gets it
 abbrev pub broughtOf : Arrived → Brought
@@ -113,16 +88,4 @@ answersIn a = answers (saidTo (a .told)) (saidTo (a .first)) (saidTo (a .second)
 
 -- what is counted of a pair
 abbrev pub pairTo : Pair → Stands
-pairTo p =
-    stands
-    (saidTo (p .told))
-    (record { arrived = p .arrived; filtered = p .filtered; queued = p .queued; sent = p .sent; turned = p .turned; refused = p .refused })
-    (p .waiting)
-
--- what is kept of a trace
-abbrev pub dayIn : Trace → Day
-dayIn t = record {
-  counts = record { events = t .events; frames = t .frames; slots = t .slots; commands = t .commands; refused = t .refused; other = t .other };
-  left = t .left;
-  carry = t .carry;
-}
+pairTo p = stands (saidTo (p .told)) (p .counters) (p .waiting)

@@ -30,18 +30,26 @@ ghost use Rattle.transport.specs.Calls.{requested, arrived};
 ghost use Rattle.bridge.specs.Bridge.{bridge, freshBridge, answersOf, answering, inAnswers, offered, slottedAs, slotted, standingAs, standing};
 ghost use Rattle.replaying.specs.Feed.{started as startedTrace, fed as fedTrace, feeding as feedingTrace};
 ghost use Rattle.replaying.specs.Lines.{finished as finishedTrace};
-ghost use Rattle.firmware.specs.Told.{meantOf, measuredOf, rowTo, version, saidTo, toldOf, heldOf, findingTo, standingTo, lineTo, tallyIn, broughtOf, broughtTo, answersIn, pairTo, dayIn};
+ghost use Rattle.firmware.specs.Told.{meantOf, measuredOf, rowTo, version, saidTo, toldOf, heldOf, findingTo, standingTo, lineTo, broughtOf, broughtTo, answersIn, pairTo};
 use answers::Answer;
 use ask::Found;
 use ask::Parameter;
+use bridge::CounterWords;
 use bridge::Offered;
+use bridge::QueueWords;
 use bridge::Standing;
 use contents::Listed;
-use feeding::Counts;
-use feeding::Tally;
+use counters::Counters;
 use hire::Line;
 use lookup::Next;
+use lookup::Table;
+use ports::Filters;
+use tally::Cell;
+use tally::Cells;
 use transport::Arrived;
+use transport::Bytes;
+use transport::Heads;
+use transport::Payload;
 
 // An answer in 01's numbers: judgement and position are 0 but for 12 and for 0 of judging, where they are the detail.
 #[repr(C)]
@@ -78,10 +86,8 @@ pub struct Located {
 fn found_in_c(found: Found) -> Located
     ensures { λ r. ⌜ findingTo r ≡ foundIn found ⌝ }
 {
-    let answer = found.answer;
-    let told = in_c(answer);
     Located {
-        told,
+        told: in_c(found.answer),
         position: found.position as u32,
         start: found.start,
         width: found.width,
@@ -101,10 +107,8 @@ pub struct Placed {
 fn placed_in_c(parameter: Parameter) -> Placed
     ensures { λ r. ⌜ standingTo r ≡ standingIn parameter ⌝ }
 {
-    let answer = parameter.answer;
-    let told = in_c(answer);
     Placed {
-        told,
+        told: in_c(parameter.answer),
         spn: parameter.spn,
         start: parameter.start,
         width: parameter.width,
@@ -144,11 +148,9 @@ pub struct Row {
 fn row_in_c(row: Listed) -> Row
     ensures { λ r. ⌜ rowTo r ≡ entryIn row ⌝ }
 {
-    let answer = row.answer;
-    let told = in_c(answer);
     let key = row.key;
     Row {
-        told,
+        told: in_c(row.answer),
         offset: row.offset,
         length: row.size,
         source: key.source as u32,
@@ -169,10 +171,8 @@ pub struct Brought {
 fn brought_in_c(came: Arrived) -> Brought
     ensures { λ r. ⌜ r ≡ broughtOf came ⌝ }
 {
-    let answer = came.answer;
-    let told = in_c(answer);
     Brought {
-        told,
+        told: in_c(came.answer),
         pgn: came.pgn,
     }
 }
@@ -191,23 +191,16 @@ fn answered_in_c(offered: Offered) -> Answered
     ensures { λ r. ⌜ answersIn r ≡ answersOf offered ⌝ }
 {
     match offered {
-        Offered::To(x, y, z) => {
-            let told = in_c(answers::plainly(0));
-            let first = in_c(bridge::answer_to(x));
-            let second = in_c(bridge::answer_to(y));
-            let third = in_c(bridge::answer_to(z));
-            Answered {
-                told,
-                first,
-                second,
-                third,
-            }
-        }
+        Offered::To(x, y, z) => Answered {
+            told: in_c(answers::plainly(0)),
+            first: in_c(bridge::answer_to(x)),
+            second: in_c(bridge::answer_to(y)),
+            third: in_c(bridge::answer_to(z)),
+        },
         Offered::NoPort => {
-            let told = in_c(answers::plainly(15));
             let none = in_c(answers::plainly(0));
             Answered {
-                told,
+                told: in_c(answers::plainly(15)),
                 first: none,
                 second: none,
                 third: none,
@@ -220,12 +213,7 @@ fn answered_in_c(offered: Offered) -> Answered
 #[repr(C)]
 pub struct Pair {
     pub told: Told,
-    pub arrived: u64,
-    pub filtered: u64,
-    pub queued: u64,
-    pub sent: u64,
-    pub turned: u64,
-    pub refused: u64,
+    pub counters: Counters,
     pub waiting: u64,
 }
 
@@ -233,17 +221,10 @@ pub struct Pair {
 fn pair_in_c(standing: Standing) -> Pair
     ensures { λ r. ⌜ pairTo r ≡ standingAs standing ⌝ }
 {
-    let answer = standing.answer;
-    let told = in_c(answer);
     let counters = standing.counters;
     Pair {
-        told,
-        arrived: counters.arrived,
-        filtered: counters.filtered,
-        queued: counters.queued,
-        sent: counters.sent,
-        turned: counters.turned,
-        refused: counters.refused,
+        told: in_c(standing.answer),
+        counters,
         waiting: standing.waiting,
     }
 }
@@ -252,14 +233,7 @@ fn pair_in_c(standing: Standing) -> Pair
 #[repr(C)]
 pub struct Counted {
     pub told: Told,
-    pub read: u64,
-    pub valid: u64,
-    pub reserved: u64,
-    pub error: u64,
-    pub missing: u64,
-    pub least: u64,
-    pub greatest: u64,
-    pub sum: u64,
+    pub cell: Cell,
     pub spn: u32,
 }
 
@@ -267,19 +241,10 @@ pub struct Counted {
 fn line_in_c(line: Line) -> Counted
     ensures { λ r. ⌜ lineTo r ≡ linedIn line ⌝ }
 {
-    let answer = line.answer;
-    let told = in_c(answer);
     let cell = line.cell;
     Counted {
-        told,
-        read: cell.read,
-        valid: cell.valid,
-        reserved: cell.reserved,
-        error: cell.error,
-        missing: cell.missing,
-        least: cell.least,
-        greatest: cell.greatest,
-        sum: cell.sum,
+        told: in_c(line.answer),
+        cell,
         spn: line.spn,
     }
 }
@@ -313,96 +278,10 @@ fn key_in_c(next: Next) -> Held
     }
 }
 
-// What is kept of a log from chunk to chunk: its counts, and the first `left` bytes of a record that is not whole yet.
-#[repr(C)]
-pub struct Log {
-    pub records: u64,
-    pub refused: u64,
-    pub other: u64,
-    pub left: usize,
-    pub carry: [u8; 13],
-}
+// What is kept of a log from chunk to chunk, and what of a trace: those rooms' own tallies.
+pub type Log = feeding::Tally;
 
-// A tally as C keeps it.
-fn log_of(tally: Tally) -> Log
-    ensures { λ r. ⌜ tallyIn r ≡ tally ⌝ }
-{
-    let counts = tally.counts;
-    let carry = tally.carry;
-    Log {
-        records: counts.records,
-        refused: counts.refused,
-        other: counts.other,
-        left: tally.left,
-        carry,
-    }
-}
-
-// The tally that C kept.
-fn tally_of(log: Log) -> Tally
-    ensures { λ r. ⌜ r ≡ tallyIn log ⌝ }
-{
-    let carry = log.carry;
-    Tally {
-        counts: Counts {
-            records: log.records,
-            refused: log.refused,
-            other: log.other,
-        },
-        left: log.left,
-        carry,
-    }
-}
-
-// What is kept of a trace from chunk to chunk: its counts, and the first `left` bytes of a record that is not whole yet.
-#[repr(C)]
-pub struct Trace {
-    pub events: u64,
-    pub frames: u64,
-    pub slots: u64,
-    pub commands: u64,
-    pub refused: u64,
-    pub other: u64,
-    pub left: usize,
-    pub carry: [u8; 14],
-}
-
-// A trace's tally as C keeps it.
-fn trace_of(day: replaying::Tally) -> Trace
-    ensures { λ r. ⌜ dayIn r ≡ day ⌝ }
-{
-    let counts = day.counts;
-    let carry = day.carry;
-    Trace {
-        events: counts.events,
-        frames: counts.frames,
-        slots: counts.slots,
-        commands: counts.commands,
-        refused: counts.refused,
-        other: counts.other,
-        left: day.left,
-        carry,
-    }
-}
-
-// The trace's tally that C kept.
-fn day_of(trace: Trace) -> replaying::Tally
-    ensures { λ r. ⌜ r ≡ dayIn trace ⌝ }
-{
-    let carry = trace.carry;
-    replaying::Tally {
-        counts: replaying::Counts {
-            events: trace.events,
-            frames: trace.frames,
-            slots: trace.slots,
-            commands: trace.commands,
-            refused: trace.refused,
-            other: trace.other,
-        },
-        left: trace.left,
-        carry,
-    }
-}
+pub type Trace = replaying::Tally;
 
 // The version of these calls, for a caller to hold against that of its header.
 #[no_mangle]
@@ -416,7 +295,7 @@ pub extern "C" fn yendrolf_version() -> u32
 
 // Makes an empty table of any words.
 #[no_mangle]
-pub extern "C" fn yendrolf_table_empty(t: &mut [u64; lookup::WORDS])
+pub extern "C" fn yendrolf_table_empty(t: &mut Table)
     ensures { λ r. ⌜ now (t .exit) ≡ emptyTable ⌝ }
 {
     table::empty(t)
@@ -424,12 +303,7 @@ pub extern "C" fn yendrolf_table_empty(t: &mut [u64; lookup::WORDS])
 
 // Learns from one frame. Most frames are of another PGN: those are answered here and go no further.
 #[no_mangle]
-pub extern "C" fn yendrolf_table_learn(
-    t: &mut [u64; lookup::WORDS],
-    id: u32,
-    len: u8,
-    d: &[u8; 8],
-) -> Told
+pub extern "C" fn yendrolf_table_learn(t: &mut Table, id: u32, len: u8, d: &[u8; 8]) -> Told
     ensures { λ r. ⌜ outcome (saidTo r) (now (t .exit)) ≡ learnt (now (t .entry)) id len (now (d .entry)) ⌝ }
 {
     if message::frame_fault(id, len, frame::split(id)) == 2 {
@@ -440,12 +314,7 @@ pub extern "C" fn yendrolf_table_learn(
 
 // Forgets one key.
 #[no_mangle]
-pub extern "C" fn yendrolf_table_forget(
-    t: &mut [u64; lookup::WORDS],
-    source: u8,
-    destination: u8,
-    k: u8,
-) -> Told
+pub extern "C" fn yendrolf_table_forget(t: &mut Table, source: u8, destination: u8, k: u8) -> Told
     ensures { λ r. ⌜ outcome (saidTo r) (now (t .exit)) ≡ forgotten (now (t .entry)) (keyNumber (keyOf source destination k)) ⌝ }
 {
     in_c(table::forget(t, source, destination, k))
@@ -454,7 +323,7 @@ pub extern "C" fn yendrolf_table_forget(
 // Gives a held key another edition of the dictionary.
 #[no_mangle]
 pub extern "C" fn yendrolf_table_set_edition(
-    t: &mut [u64; lookup::WORDS],
+    t: &mut Table,
     source: u8,
     destination: u8,
     k: u8,
@@ -467,12 +336,7 @@ pub extern "C" fn yendrolf_table_set_edition(
 
 // The edition of a key, 2010 where it is not held.
 #[no_mangle]
-pub extern "C" fn yendrolf_table_edition(
-    t: &[u64; lookup::WORDS],
-    source: u8,
-    destination: u8,
-    k: u8,
-) -> u32
+pub extern "C" fn yendrolf_table_edition(t: &Table, source: u8, destination: u8, k: u8) -> u32
     ensures { λ r. ⌜ r ≡ editionIn (now (t .entry)) (keyOf source destination k) ⌝ }
 {
     lookup::edition_of(t, source, destination, k)
@@ -480,12 +344,7 @@ pub extern "C" fn yendrolf_table_edition(
 
 // The number of parameters of a key's map.
 #[no_mangle]
-pub extern "C" fn yendrolf_table_count(
-    t: &[u64; lookup::WORDS],
-    source: u8,
-    destination: u8,
-    k: u8,
-) -> u32
+pub extern "C" fn yendrolf_table_count(t: &Table, source: u8, destination: u8, k: u8) -> u32
     ensures { λ r. ⌜ r ≡ countOf (mapIn (now (t .entry)) (keyOf source destination k)) ⌝ }
 {
     ask::count(t, source, destination, k) as u32
@@ -493,12 +352,7 @@ pub extern "C" fn yendrolf_table_count(
 
 // Judges a key's map.
 #[no_mangle]
-pub extern "C" fn yendrolf_table_judge(
-    t: &[u64; lookup::WORDS],
-    source: u8,
-    destination: u8,
-    k: u8,
-) -> Told
+pub extern "C" fn yendrolf_table_judge(t: &Table, source: u8, destination: u8, k: u8) -> Told
     ensures { λ r. ⌜ saidTo r ≡ judgedBy (widthFor (now (t .entry)) (keyOf source destination k)) (mapIn (now (t .entry)) (keyOf source destination k)) ⌝ }
 {
     in_c(ask::judge(t, source, destination, k))
@@ -507,7 +361,7 @@ pub extern "C" fn yendrolf_table_judge(
 // Packs numbers by a key's map.
 #[no_mangle]
 pub extern "C" fn yendrolf_table_pack(
-    t: &[u64; lookup::WORDS],
+    t: &Table,
     source: u8,
     destination: u8,
     k: u8,
@@ -523,7 +377,7 @@ pub extern "C" fn yendrolf_table_pack(
 // Reads a payload by a key's map, and lays the state of each number beside it.
 #[no_mangle]
 pub extern "C" fn yendrolf_table_read(
-    t: &[u64; lookup::WORDS],
+    t: &Table,
     source: u8,
     destination: u8,
     k: u8,
@@ -541,7 +395,7 @@ pub extern "C" fn yendrolf_table_read(
 // Finds an SPN in a key's map.
 #[no_mangle]
 pub extern "C" fn yendrolf_table_find(
-    t: &[u64; lookup::WORDS],
+    t: &Table,
     source: u8,
     destination: u8,
     k: u8,
@@ -555,7 +409,7 @@ pub extern "C" fn yendrolf_table_find(
 // The parameter at a position of a key's map, usable or not.
 #[no_mangle]
 pub extern "C" fn yendrolf_table_parameter_at(
-    t: &[u64; lookup::WORDS],
+    t: &Table,
     source: u8,
     destination: u8,
     k: u8,
@@ -568,7 +422,7 @@ pub extern "C" fn yendrolf_table_parameter_at(
 
 // The lowest held key.
 #[no_mangle]
-pub extern "C" fn yendrolf_table_first_key(t: &[u64; lookup::WORDS]) -> Held
+pub extern "C" fn yendrolf_table_first_key(t: &Table) -> Held
     ensures { λ r. ⌜ r ≡ heldOf (firstKey (now (t .entry))) ⌝ }
 {
     key_in_c(lookup::first_key(t))
@@ -576,12 +430,7 @@ pub extern "C" fn yendrolf_table_first_key(t: &[u64; lookup::WORDS]) -> Held
 
 // The lowest held key above the given one.
 #[no_mangle]
-pub extern "C" fn yendrolf_table_next_key(
-    t: &[u64; lookup::WORDS],
-    source: u8,
-    destination: u8,
-    k: u8,
-) -> Held
+pub extern "C" fn yendrolf_table_next_key(t: &Table, source: u8, destination: u8, k: u8) -> Held
     ensures { λ r. ⌜ r ≡ heldOf (nextKey (now (t .entry)) (keyOf source destination k)) ⌝ }
 {
     key_in_c(lookup::next_key(t, source, destination, k))
@@ -590,7 +439,7 @@ pub extern "C" fn yendrolf_table_next_key(
 // Answers a Parameter Locate: the records of our own address' maps that have the parameter, laid into `log` from byte `start` on.
 #[no_mangle]
 pub extern "C" fn yendrolf_table_locate(
-    t: &[u64; lookup::WORDS],
+    t: &Table,
     own: u8,
     id: u32,
     len: u8,
@@ -608,7 +457,7 @@ pub extern "C" fn yendrolf_table_locate(
 
 // How many bytes the image of a table has.
 #[no_mangle]
-pub extern "C" fn yendrolf_table_image_size(t: &[u64; lookup::WORDS]) -> usize
+pub extern "C" fn yendrolf_table_image_size(t: &Table) -> usize
     ensures { λ r. ⌜ r ≡ length (imageOf (now (t .entry))) ⌝ }
 {
     save::size(t)
@@ -616,7 +465,7 @@ pub extern "C" fn yendrolf_table_image_size(t: &[u64; lookup::WORDS]) -> usize
 
 // Lays the image of a table over the start of `image`.
 #[no_mangle]
-pub extern "C" fn yendrolf_table_save(t: &[u64; lookup::WORDS], image: &mut [u8]) -> Told
+pub extern "C" fn yendrolf_table_save(t: &Table, image: &mut [u8]) -> Told
     ensures { λ r. ⌜ outcome (saidTo r) (now (image .exit)) ≡ savedInto (now (t .entry)) (now (image .entry)) ⌝ }
 {
     in_c(save::save(t, image))
@@ -624,7 +473,7 @@ pub extern "C" fn yendrolf_table_save(t: &[u64; lookup::WORDS], image: &mut [u8]
 
 // Loads an image into an empty table.
 #[no_mangle]
-pub extern "C" fn yendrolf_table_load(t: &mut [u64; lookup::WORDS], image: &[u8]) -> Told
+pub extern "C" fn yendrolf_table_load(t: &mut Table, image: &[u8]) -> Told
     ensures { λ r. ⌜ outcome (saidTo r) (now (t .exit)) ≡ loaded (now (t .entry)) (now (image .entry)) ⌝ }
 {
     in_c(load::load(t, image))
@@ -682,32 +531,32 @@ pub extern "C" fn yendrolf_scaled(spn: u32, number: u32) -> Measured
 // Nothing read yet.
 #[no_mangle]
 pub extern "C" fn yendrolf_start_log() -> Log
-    ensures { λ r. ⌜ tallyIn r ≡ started ⌝ }
+    ensures { λ r. ⌜ r ≡ started ⌝ }
 {
-    log_of(feeding::start())
+    feeding::start()
 }
 
 // Takes the next chunk of a log.
 #[no_mangle]
-pub extern "C" fn yendrolf_table_feed(t: &mut [u64; lookup::WORDS], log: Log, chunk: &[u8]) -> Log
-    ensures { λ r. ⌜ fed (now (t .exit)) (tallyIn r) ≡ feeding (now (t .entry)) (tallyIn log) (now (chunk .entry)) ⌝ }
+pub extern "C" fn yendrolf_table_feed(t: &mut Table, log: Log, chunk: &[u8]) -> Log
+    ensures { λ r. ⌜ fed (now (t .exit)) r ≡ feeding (now (t .entry)) log (now (chunk .entry)) ⌝ }
 {
-    log_of(feeding::feed(t, tally_of(log), chunk))
+    feeding::feed(t, log, chunk)
 }
 
 // Lays the listing over the start of `text`.
 #[no_mangle]
-pub extern "C" fn yendrolf_table_finish(t: &[u64; lookup::WORDS], log: Log, text: &mut [u8]) -> Told
-    ensures { λ r. ⌜ outcome (saidTo r) (now (text .exit)) ≡ finished (now (t .entry)) (tallyIn log) (now (text .entry)) ⌝ }
+pub extern "C" fn yendrolf_table_finish(t: &Table, log: Log, text: &mut [u8]) -> Told
+    ensures { λ r. ⌜ outcome (saidTo r) (now (text .exit)) ≡ finished (now (t .entry)) log (now (text .entry)) ⌝ }
 {
-    in_c(listing::finish(t, tally_of(log), text))
+    in_c(listing::finish(t, log, text))
 }
 
 // ---- the report of a hire
 
 // Nothing counted yet.
 #[no_mangle]
-pub extern "C" fn yendrolf_hire_fresh(acc: &mut [u64; tally::WORDS])
+pub extern "C" fn yendrolf_hire_fresh(acc: &mut Cells)
     ensures { λ r. ⌜ now (acc .exit) ≡ emptyTally ⌝ }
 {
     hire::fresh(acc)
@@ -716,23 +565,23 @@ pub extern "C" fn yendrolf_hire_fresh(acc: &mut [u64; tally::WORDS])
 // Takes the next chunk of a log, and counts the payloads that are read.
 #[no_mangle]
 pub extern "C" fn yendrolf_hire_feed(
-    t: &mut [u64; lookup::WORDS],
-    acc: &mut [u64; tally::WORDS],
+    t: &mut Table,
+    acc: &mut Cells,
     limit: u32,
     log: Log,
     chunk: &[u8],
 ) -> Log
-    ensures { λ r. ⌜ hired (now (t .exit)) (tallyIn r) (now (acc .exit))
-        ≡ hiring limit (now (t .entry)) (now (acc .entry)) (tallyIn log) (now (chunk .entry)) ⌝ }
+    ensures { λ r. ⌜ hired (now (t .exit)) r (now (acc .exit))
+        ≡ hiring limit (now (t .entry)) (now (acc .entry)) log (now (chunk .entry)) ⌝ }
 {
-    log_of(hire::feed(t, acc, limit, tally_of(log), chunk))
+    hire::feed(t, acc, limit, log, chunk)
 }
 
 // What the report says of a position of a key.
 #[no_mangle]
 pub extern "C" fn yendrolf_hire_line(
-    t: &[u64; lookup::WORDS],
-    acc: &[u64; tally::WORDS],
+    t: &Table,
+    acc: &Cells,
     limit: u32,
     source: u8,
     destination: u8,
@@ -748,7 +597,7 @@ pub extern "C" fn yendrolf_hire_line(
 
 // Makes all filters fresh.
 #[no_mangle]
-pub extern "C" fn yendrolf_filters_fresh(w: &mut [u32; ports::WORDS])
+pub extern "C" fn yendrolf_filters_fresh(w: &mut Filters)
     ensures { λ r. ⌜ now (w .exit) ≡ freshWords ⌝ }
 {
     ports::fresh(w)
@@ -756,12 +605,7 @@ pub extern "C" fn yendrolf_filters_fresh(w: &mut [u32; ports::WORDS])
 
 // Adds a PGN to the list of one pair.
 #[no_mangle]
-pub extern "C" fn yendrolf_filters_add(
-    w: &mut [u32; ports::WORDS],
-    from: u8,
-    to: u8,
-    pgn: u32,
-) -> Told
+pub extern "C" fn yendrolf_filters_add(w: &mut Filters, from: u8, to: u8, pgn: u32) -> Told
     ensures { λ r. ⌜ outcome (saidTo r) (now (w .exit)) ≡ commanded (now (w .entry)) from to (Add pgn) ⌝ }
 {
     in_c(ports::add(w, from, to, pgn))
@@ -769,12 +613,7 @@ pub extern "C" fn yendrolf_filters_add(
 
 // Deletes a PGN from the list of one pair.
 #[no_mangle]
-pub extern "C" fn yendrolf_filters_delete(
-    w: &mut [u32; ports::WORDS],
-    from: u8,
-    to: u8,
-    pgn: u32,
-) -> Told
+pub extern "C" fn yendrolf_filters_delete(w: &mut Filters, from: u8, to: u8, pgn: u32) -> Told
     ensures { λ r. ⌜ outcome (saidTo r) (now (w .exit)) ≡ commanded (now (w .entry)) from to (Delete pgn) ⌝ }
 {
     in_c(ports::delete(w, from, to, pgn))
@@ -782,12 +621,7 @@ pub extern "C" fn yendrolf_filters_delete(
 
 // Sets the mode of one pair and empties its list.
 #[no_mangle]
-pub extern "C" fn yendrolf_filters_renew(
-    w: &mut [u32; ports::WORDS],
-    from: u8,
-    to: u8,
-    mode: u8,
-) -> Told
+pub extern "C" fn yendrolf_filters_renew(w: &mut Filters, from: u8, to: u8, mode: u8) -> Told
     ensures { λ r. ⌜ outcome (saidTo r) (now (w .exit)) ≡ commanded (now (w .entry)) from to (Renew mode) ⌝ }
 {
     in_c(ports::renew(w, from, to, mode))
@@ -795,12 +629,7 @@ pub extern "C" fn yendrolf_filters_renew(
 
 // Decides on a frame from one port to another by its identifier.
 #[no_mangle]
-pub extern "C" fn yendrolf_filters_decide(
-    w: &[u32; ports::WORDS],
-    from: u8,
-    to: u8,
-    id: u32,
-) -> Told
+pub extern "C" fn yendrolf_filters_decide(w: &Filters, from: u8, to: u8, id: u32) -> Told
     ensures { λ r. ⌜ saidTo r ≡ decided (now (w .entry)) from to id ⌝ }
 {
     in_c(ports::decide(w, from, to, id))
@@ -810,10 +639,7 @@ pub extern "C" fn yendrolf_filters_decide(
 
 // Makes all counters 0, and all queues empty.
 #[no_mangle]
-pub extern "C" fn yendrolf_bridge_fresh(
-    c: &mut [u64; bridge::COUNTERS],
-    q: &mut [u64; bridge::QUEUES],
-)
+pub extern "C" fn yendrolf_bridge_fresh(c: &mut CounterWords, q: &mut QueueWords)
     ensures { λ r. ⌜ bridge (now (c .exit)) (now (q .exit)) ≡ freshBridge ⌝ }
 {
     bridge::fresh(c, q)
@@ -822,9 +648,9 @@ pub extern "C" fn yendrolf_bridge_fresh(
 // Offers a frame that came in at a port to the three others.
 #[no_mangle]
 pub extern "C" fn yendrolf_bridge_offer(
-    c: &mut [u64; bridge::COUNTERS],
-    q: &mut [u64; bridge::QUEUES],
-    w: &[u32; ports::WORDS],
+    c: &mut CounterWords,
+    q: &mut QueueWords,
+    w: &Filters,
     from: u8,
     id: u32,
 ) -> Answered
@@ -837,8 +663,8 @@ pub extern "C" fn yendrolf_bridge_offer(
 // A slot of a port: the frame that is next leaves.
 #[no_mangle]
 pub extern "C" fn yendrolf_bridge_slot(
-    c: &mut [u64; bridge::COUNTERS],
-    q: &mut [u64; bridge::QUEUES],
+    c: &mut CounterWords,
+    q: &mut QueueWords,
     port: u8,
     from: &mut u8,
     id: &mut u32,
@@ -851,12 +677,7 @@ pub extern "C" fn yendrolf_bridge_slot(
 
 // What is counted of a pair, and what waits.
 #[no_mangle]
-pub extern "C" fn yendrolf_bridge_pair(
-    c: &[u64; bridge::COUNTERS],
-    q: &[u64; bridge::QUEUES],
-    from: u8,
-    to: u8,
-) -> Pair
+pub extern "C" fn yendrolf_bridge_pair(c: &CounterWords, q: &QueueWords, from: u8, to: u8) -> Pair
     ensures { λ r. ⌜ pairTo r ≡ standing (bridge (now (c .entry)) (now (q .entry))) from to ⌝ }
 {
     pair_in_c(bridge::pair(c, q, from, to))
@@ -867,44 +688,44 @@ pub extern "C" fn yendrolf_bridge_pair(
 // Nothing read yet.
 #[no_mangle]
 pub extern "C" fn yendrolf_start_trace() -> Trace
-    ensures { λ r. ⌜ dayIn r ≡ startedTrace ⌝ }
+    ensures { λ r. ⌜ r ≡ startedTrace ⌝ }
 {
-    trace_of(replaying::start())
+    replaying::start()
 }
 
 // Takes the next chunk of a trace.
 #[no_mangle]
 pub extern "C" fn yendrolf_bridge_feed(
-    c: &mut [u64; bridge::COUNTERS],
-    q: &mut [u64; bridge::QUEUES],
-    w: &mut [u32; ports::WORDS],
+    c: &mut CounterWords,
+    q: &mut QueueWords,
+    w: &mut Filters,
     trace: Trace,
     chunk: &[u8],
 ) -> Trace
-    ensures { λ r. ⌜ fedTrace (bridge (now (c .exit)) (now (q .exit))) (now (w .exit)) (dayIn r)
-        ≡ feedingTrace (bridge (now (c .entry)) (now (q .entry))) (now (w .entry)) (dayIn trace) (now (chunk .entry)) ⌝ }
+    ensures { λ r. ⌜ fedTrace (bridge (now (c .exit)) (now (q .exit))) (now (w .exit)) r
+        ≡ feedingTrace (bridge (now (c .entry)) (now (q .entry))) (now (w .entry)) trace (now (chunk .entry)) ⌝ }
 {
-    trace_of(replaying::feed(c, q, w, day_of(trace), chunk))
+    replaying::feed(c, q, w, trace, chunk)
 }
 
 // Lays the text of a replay over the start of `text`.
 #[no_mangle]
 pub extern "C" fn yendrolf_bridge_finish(
-    c: &[u64; bridge::COUNTERS],
-    q: &[u64; bridge::QUEUES],
+    c: &CounterWords,
+    q: &QueueWords,
     trace: Trace,
     text: &mut [u8],
 ) -> Told
-    ensures { λ r. ⌜ outcome (saidTo r) (now (text .exit)) ≡ finishedTrace (bridge (now (c .entry)) (now (q .entry))) (dayIn trace) (now (text .entry)) ⌝ }
+    ensures { λ r. ⌜ outcome (saidTo r) (now (text .exit)) ≡ finishedTrace (bridge (now (c .entry)) (now (q .entry))) trace (now (text .entry)) ⌝ }
 {
-    in_c(replaying::finish(c, q, day_of(trace), text))
+    in_c(replaying::finish(c, q, trace, text))
 }
 
 // ---- long messages
 
 // Makes head words of which nobody holds a session; the sessions' bytes may hold anything.
 #[no_mangle]
-pub extern "C" fn yendrolf_sessions_fresh(heads: &mut [u64; transport::WORDS])
+pub extern "C" fn yendrolf_sessions_fresh(heads: &mut Heads)
     ensures { λ r. ⌜ now (heads .exit) ≡ freshHeads ⌝ }
 {
     transport::fresh(heads)
@@ -913,7 +734,7 @@ pub extern "C" fn yendrolf_sessions_fresh(heads: &mut [u64; transport::WORDS])
 // Takes a frame that may be a request to send.
 #[no_mangle]
 pub extern "C" fn yendrolf_sessions_request(
-    heads: &mut [u64; transport::WORDS],
+    heads: &mut Heads,
     id: u32,
     len: u8,
     d: &[u8; 8],
@@ -926,9 +747,9 @@ pub extern "C" fn yendrolf_sessions_request(
 // Takes a frame that may be a packet; the last packet of a session lays the payload over the start of `out`.
 #[no_mangle]
 pub extern "C" fn yendrolf_sessions_packet(
-    heads: &mut [u64; transport::WORDS],
-    bytes: &mut [u8; transport::BYTES],
-    out: &mut [u8; transport::MOST],
+    heads: &mut Heads,
+    bytes: &mut Bytes,
+    out: &mut Payload,
     id: u32,
     len: u8,
     d: &[u8; 8],

@@ -1,6 +1,6 @@
 -- A log that comes chunk after chunk is some bytes. Assumes nothing.
 use Prim.Native.Nat.{ℕ}
-use mathlib.Core.Path.{_≡_, ap, _∙_}
+use mathlib.Core.Path.{ap, _∙_}
 use mathlib.Core.List.{List, [], _++_, flatten}
 use native.Mathlib.Omega.{arith}
 use Rattle.feeding.specs.declared.Tally.{Tally}

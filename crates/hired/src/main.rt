@@ -6,8 +6,10 @@ ghost use Rattle.feeding.specs.Feed.{started};
 ghost use Rattle.hired.specs.Bytes.{SomeHire};
 use feeding::Tally;
 use libc::STDERR_FILENO;
+use lookup::Table;
 use lookup::WORDS;
 use reading::Taken;
+use tally::Cells;
 
 // "more than 2^31 payloads of one key"
 const LIMIT: u32 = 2147483648;
@@ -37,7 +39,7 @@ fn show_end(shown: bool, turns: u64) {
 // ---- reading
 
 // Feeds the next 64 KB.
-fn feed_on(t: &mut [u64; WORDS], acc: &mut [u64; tally::WORDS], tally: Tally) -> Taken
+fn feed_on(t: &mut Table, acc: &mut Cells, tally: Tally) -> Taken
     ensures { λ r. ⌜ SomeHire (2 ^ 31) (now (t .entry)) (now (acc .entry)) tally (now (t .exit)) (now (acc .exit)) (r .tally) ⌝ }
 {
     let mut buffer = io::large_buffer();
@@ -55,7 +57,7 @@ fn feed_on(t: &mut [u64; WORDS], acc: &mut [u64; tally::WORDS], tally: Tally) ->
 }
 
 // Reads the log to its end. A proved loop has to end, so it counts its turns, up to a number that no log reaches.
-fn read_log(t: &mut [u64; WORDS], acc: &mut [u64; tally::WORDS], shown: bool) -> Taken
+fn read_log(t: &mut Table, acc: &mut Cells, shown: bool) -> Taken
     ensures { λ r. ⌜ SomeHire (2 ^ 31) (now (t .entry)) (now (acc .entry)) started (now (t .exit)) (now (acc .exit)) (r .tally) ⌝ }
 {
     let tally = feeding::start();
@@ -77,7 +79,7 @@ fn read_log(t: &mut [u64; WORDS], acc: &mut [u64; tally::WORDS], shown: bool) ->
 }
 
 // Whether the whole report was written.
-fn print(t: &[u64; WORDS], acc: &[u64; tally::WORDS], tally: Tally) -> bool {
+fn print(t: &Table, acc: &Cells, tally: Tally) -> bool {
     if reporting::write_all(t, acc, LIMIT, tally) {
         return true;
     }

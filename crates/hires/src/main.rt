@@ -14,61 +14,42 @@ use lines::end;
 use lines::first;
 use lines::four;
 use lines::front;
-use lines::long;
+use lines::longs;
 use lines::more;
 use lines::two;
+use lookup::Table;
 use lookup::WORDS;
+use tally::Cells;
 
 // The words of a row of cells.
 const ROW: usize = 512;
 
-// What is kept from case to case beside the words: the limit, the tally, and whether there was a case.
+// What is kept from case to case beside the words: the limit and the tally.
 struct Hire {
     limit: u32,
     tally: Tally,
-    more: bool,
 }
 
-fn start(t: &mut [u64; WORDS], acc: &mut [u64; tally::WORDS], limit: u32) -> Hire {
+fn start(t: &mut Table, acc: &mut Cells, limit: u32) -> Hire {
     table::empty(t);
     hire::fresh(acc);
     let tally = feeding::start();
-    Hire {
-        limit,
-        tally,
-        more: true,
-    }
+    Hire { limit, tally }
 }
 
-fn feed_part(
-    t: &mut [u64; WORDS],
-    acc: &mut [u64; tally::WORDS],
-    limit: u32,
-    tally: Tally,
-    chunk: &mut [u8],
-) -> Tally {
+fn feed_part(t: &mut Table, acc: &mut Cells, limit: u32, tally: Tally, chunk: &mut [u8]) -> Tally {
     io::read_full(STDIN_FILENO, chunk);
     hire::feed(t, acc, limit, tally, chunk)
 }
 
-fn feed(
-    t: &mut [u64; WORDS],
-    acc: &mut [u64; tally::WORDS],
-    limit: u32,
-    tally: Tally,
-    size: usize,
-) -> Hire {
+fn feed(t: &mut Table, acc: &mut Cells, limit: u32, tally: Tally, size: usize) -> Hire {
     let mut buffer = io::buffer();
     let n = front(size, &buffer);
     let tally = feed_part(t, acc, limit, tally, &mut buffer[..n]);
-    Hire {
-        limit,
-        tally,
-        more: true,
-    }
+    Hire { limit, tally }
 }
 
-fn line(t: &[u64; WORDS], acc: &[u64; tally::WORDS], limit: u32, b: &[u8; 16]) {
+fn line(t: &Table, acc: &Cells, limit: u32, b: &[u8; 16]) {
     let l = hire::line_of(t, acc, limit, b[1], b[2], b[3], b[4]);
     let answer = l.answer;
     let judgement = answer.judgement;
@@ -78,14 +59,16 @@ fn line(t: &[u64; WORDS], acc: &[u64; tally::WORDS], limit: u32, b: &[u8; 16]) {
     more(answers::number_of(judgement) as u32);
     more(answers::position_of(judgement) as u32);
     more(l.spn);
-    long(cell.read);
-    long(cell.valid);
-    long(cell.reserved);
-    long(cell.error);
-    long(cell.missing);
-    long(cell.least);
-    long(cell.greatest);
-    long(cell.sum);
+    longs(
+        &[
+            cell.read,
+            cell.valid,
+            cell.reserved,
+            cell.error,
+            cell.missing,
+        ],
+    );
+    longs(&[cell.least, cell.greatest, cell.sum]);
     end();
 }
 
@@ -94,33 +77,27 @@ fn word(b: &[u8; 16]) -> u64 {
     four(b[3], b[4], b[5], b[6]) as u64 + four(b[7], b[8], b[9], b[10]) as u64 * 4294967296
 }
 
-fn put_cell(acc: &mut [u64; tally::WORDS], at: usize, word: u64) {
+fn put_cell(acc: &mut Cells, at: usize, word: u64) {
     if at < tally::WORDS {
         acc[at] = word;
     }
 }
 
-fn put_word(t: &mut [u64; WORDS], at: usize, word: u64) {
+fn put_word(t: &mut Table, at: usize, word: u64) {
     if at < WORDS {
         t[at] = word;
     }
 }
 
-fn cells(acc: &[u64; tally::WORDS], row: u8) {
+fn cells(acc: &Cells, row: u8) {
     let words = &acc[..];
     let from = row as usize % 16 * ROW;
-    let mut i = 0;
-    while i < ROW {
-        if 0 < i {
-            io::write_all(STDOUT_FILENO, b" ");
-        }
-        io::print_decimal(STDOUT_FILENO, words[from + i]);
-        i += 1;
-    }
+    io::print_decimal(STDOUT_FILENO, words[from]);
+    longs(&words[from + 1..from + ROW]);
     end();
 }
 
-fn run(t: &mut [u64; WORDS], acc: &mut [u64; tally::WORDS], h: Hire, b: &[u8; 16]) -> Hire {
+fn run(t: &mut Table, acc: &mut Cells, h: Hire, b: &[u8; 16]) -> Hire {
     let limit = h.limit;
     let tally = h.tally;
     match b[0] {
@@ -134,26 +111,7 @@ fn run(t: &mut [u64; WORDS], acc: &mut [u64; tally::WORDS], h: Hire, b: &[u8; 16
         5 => put_word(t, two(b[1], b[2]), word(b)),
         _ => cells(acc, b[1]),
     }
-    Hire {
-        limit,
-        tally,
-        more: true,
-    }
-}
-
-// Reads one case and runs it.
-fn case(t: &mut [u64; WORDS], acc: &mut [u64; tally::WORDS], h: Hire) -> Hire {
-    let mut b = [0u8; 16];
-    let n = io::read_full(STDIN_FILENO, &mut b);
-    if n < 16 {
-        let tally = h.tally;
-        return Hire {
-            limit: h.limit,
-            tally,
-            more: false,
-        };
-    }
-    run(t, acc, h, &b)
+    Hire { limit, tally }
 }
 
 // What the calls are lent stands here. A proved loop has to end, so it counts its turns down, from a number that no run uses up.
@@ -161,9 +119,10 @@ fn main() {
     let mut t = [0u64; WORDS];
     let mut acc = [0u64; tally::WORDS];
     let mut h = start(&mut t, &mut acc, 0);
+    let mut b = [0u8; 16];
     let mut turns = u64::MAX;
-    while turns > 0 && h.more {
-        h = case(&mut t, &mut acc, h);
+    while turns > 0 && lines::case(&mut b) {
+        h = run(&mut t, &mut acc, h, &b);
         turns -= 1;
     }
 }

@@ -19,10 +19,11 @@ use lines::long;
 use lines::more;
 use lines::two;
 use lookup::Next;
+use lookup::Table;
 use lookup::WORDS;
 use message::Key;
 
-fn saved(t: &[u64; WORDS], out: &mut [u8]) {
+fn saved(t: &Table, out: &mut [u8]) {
     let a = save::save(t, out);
     first(a.number);
     more(a.detail);
@@ -32,7 +33,7 @@ fn saved(t: &[u64; WORDS], out: &mut [u8]) {
 }
 
 // A key as the listing has it, and its edition.
-fn judged(t: &[u64; WORDS], key: Key) {
+fn judged(t: &Table, key: Key) {
     let a = ask::judge(t, key.source, key.destination, key.k);
     let j = a.judgement;
     more(key.source as u32);
@@ -45,7 +46,7 @@ fn judged(t: &[u64; WORDS], key: Key) {
 }
 
 // The key, where there is one, and the next.
-fn after(t: &[u64; WORDS], n: Next) -> Next {
+fn after(t: &Table, n: Next) -> Next {
     match n {
         Next::Found(key) => {
             judged(t, key);
@@ -56,7 +57,7 @@ fn after(t: &[u64; WORDS], n: Next) -> Next {
 }
 
 // The held keys; 16 at most, so that as many turns show all of them.
-fn loaded(t: &mut [u64; WORDS], image: &[u8]) {
+fn loaded(t: &mut Table, image: &[u8]) {
     let a = load::load(t, image);
     first(a.number);
     let mut at = lookup::first_key(t);
@@ -100,7 +101,7 @@ fn row_number(b: &[u8; 16]) -> usize {
     low + high * 4294967296
 }
 
-fn with_bytes(t: &mut [u64; WORDS], b: &[u8; 16], behind: &mut [u8]) {
+fn with_bytes(t: &mut Table, b: &[u8; 16], behind: &mut [u8]) {
     io::read_full(STDIN_FILENO, behind);
     match b[0] {
         3 => saved(t, behind),
@@ -110,7 +111,14 @@ fn with_bytes(t: &mut [u64; WORDS], b: &[u8; 16], behind: &mut [u8]) {
     }
 }
 
-fn run(t: &mut [u64; WORDS], b: &[u8; 16]) {
+// The bytes behind a case have room in a buffer.
+fn lend(t: &mut Table, b: &[u8; 16]) {
+    let mut buffer = io::buffer();
+    let n = front(two(b[14], b[15]), &buffer);
+    with_bytes(t, b, &mut buffer[..n]);
+}
+
+fn run(t: &mut Table, b: &[u8; 16]) {
     match b[0] {
         0 => table::empty(t),
         1 => {
@@ -127,31 +135,18 @@ fn run(t: &mut [u64; WORDS], b: &[u8; 16]) {
         7 => {
             edition::set_edition(t, b[1], b[2], b[3], four(b[4], b[5], b[6], b[7]));
         }
-        _ => {
-            let mut buffer = io::buffer();
-            let n = front(two(b[14], b[15]), &buffer);
-            with_bytes(t, b, &mut buffer[..n]);
-        }
+        _ => lend(t, b),
     }
-}
-
-// Reads one case and runs it; false where the input ends.
-fn case(t: &mut [u64; WORDS]) -> bool {
-    let mut b = [0u8; 16];
-    let n = io::read_full(STDIN_FILENO, &mut b);
-    if n < 16 {
-        return false;
-    }
-    run(t, &b);
-    true
 }
 
 // A proved loop has to end, so it counts its turns down, from a number that no run uses up.
 fn main() {
     let mut t = [0u64; WORDS];
     table::empty(&mut t);
+    let mut b = [0u8; 16];
     let mut turns = u64::MAX;
-    while turns > 0 && case(&mut t) {
+    while turns > 0 && lines::case(&mut b) {
+        run(&mut t, &b);
         turns -= 1;
     }
 }

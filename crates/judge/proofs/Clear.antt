@@ -1,36 +1,37 @@
--- The walk over all rules at once: the least start that rule 5 lets stand, the marks of the SPNs that were passed, and that no rule names a position where none is
--- broken. Assumes nothing.
+-- The walk over all rules at once: where 5 and 6 need not be asked, the marks of the SPNs that were passed, and that no rule names a position where none is broken. Assumes
+-- nothing.
 use Prim.Native.Nat.{ℕ, zero, suc, _+_, _%_, _≤_, _<_}
 use mathlib.Core.Path.{_≡_, refl, sym, ap, _∙_}
-use mathlib.Core.Bool.{Bool, true, false, _||_}
+use mathlib.Core.Bool.{Bool, false}
 use mathlib.Core.List.{List, []}
 use native.Mathlib.Decide.{decLt, ℕ-discrete}
-use native.Mathlib.Numerals.{add-one}
 use native.Mathlib.Omega.{arith}
-use borrow.Author.Tests.{le-leb, lt-leb, lt-ltb, le-ltb, ne-eqb}
-use lib.Dec.{leb, ltb}
+use borrow.Author.Tests.{lt-leb, le-ltb, ne-eqb, eqb-false}
+use lib.Dec.{eqb}
 use lib.ListN.{length, getD, set}
 use lib.Seq.{getD-set-same, getD-set-other}
 use Rattle.words.specs.First.{lowest}
-use Rattle.words.proofs.Lowest.{neither, any-none, lowest-none, lowest-each}
-use Rattle.judge.specs.Judge.{numberAt, shortest, marked, unknown, repeated, notAbove, uneven, overlaps, beyond}
-use Rattle.judge.specs.Walk.{floorAt, Passed, brokenBy, broken}
+use Rattle.words.proofs.Lowest.{None, neither, any-none, lowest-none, lowest-each}
+use Rattle.places.specs.Place.{endIn, endTo}
+use Rattle.places.proofs.Place.{end-runs, end-le, clear-after}
+use Rattle.judge.specs.Judge.{mark, numberAt, shortest, marked, unknown, repeated, notAbove, uneven, overlaps, beyond}
+use Rattle.judge.specs.Walk.{Wide, Passed, crossing, broken}
 use Rattle.judge.proofs.Rules.{skip}
 use Rattle.judge.proofs.Slices.{plainly, Left}
 
--- ---- the least start
-pub floor-more : (s : ℕ → ℕ) (i : ℕ) → s i + 1 ≡ floorAt s (i + 1)
-unfolding floorAt
-floor-more s i = simp add-one
+-- ---- where 5 and 6 need not be asked
+module _ (starts widths : List ℕ) where
+  -- what starts at or after the largest end of the earlier ones, which all have a width, starts above the one before
+  above : (i : ℕ) → Wide widths i → endTo starts widths i ≤ numberAt starts i → notAbove (numberAt starts) i ≡ false
+  unfolding notAbove
+  above zero w l = refl
+  above (suc i) w l =
+      lt-leb (numberAt starts (suc i)) (numberAt starts i)
+      (omega (arith, l, end-le starts widths i (suc i) (omega arith), end-runs (numberAt starts i) (numberAt widths i), w i (omega arith)))
 
-below-floor : (s : ℕ → ℕ) (i : ℕ) → ltb (s i) (floorAt s i) ≡ notAbove s i
-unfolding floorAt notAbove
-below-floor s zero = le-ltb (s 0) 0 (omega arith)
-below-floor s (suc i) =
-    elim (decLt (s i) (s (suc i))) [
-      | yes l ↦ le-ltb (s (suc i)) (suc (s i)) (omega arith) ∙ sym (lt-leb (s (suc i)) (s i) l)
-      | no l ↦ lt-ltb (s (suc i)) (suc (s i)) (omega arith) ∙ sym (le-leb (s (suc i)) (s i) (omega arith))
-    ]
+  -- and shares no bit with them
+  pub not-crossing : (i : ℕ) → Wide widths i → endTo starts widths i ≤ numberAt starts i → crossing (numberAt starts) (numberAt widths) i ≡ false
+  not-crossing i w l = rw (above i w l) (clear-after starts widths i l)
 
 -- ---- the marks
 module _ (seen spns : List ℕ) (i : ℕ) (passed : Passed seen spns i) where
@@ -51,45 +52,51 @@ module _ (seen spns : List ℕ) (i : ℕ) (passed : Passed seen spns i) where
       differ e = omega (arith, e)
 
 -- ---- where none is broken
-module _ (n : ℕ) (transport : Bool) (spns starts widths : List ℕ) (long : n ≤ shortest spns starts widths) (none : lowest (broken spns starts widths) n ≡ 0) where
-  -- no rule applies to a position
-  pub record Clear (i : ℕ) : Type 0 where
-    pub here : marked (shortest spns starts widths) widths i ≡ false
-    pub known : unknown (numberAt widths) i ≡ false
-    pub once : repeated (numberAt spns) i ≡ false
-    pub rising : notAbove (numberAt starts) i ≡ false
-    pub even : uneven (numberAt starts) (numberAt widths) i ≡ false
-    pub apart : overlaps (numberAt starts) (numberAt widths) i ≡ false
-    pub within : beyond (numberAt starts) (numberAt widths) i ≡ false
 
-  inside : (i : ℕ) → i < n → leb (shortest spns starts widths) i ≡ false
-  inside i l = lt-leb (shortest spns starts widths) i (omega arith)
+-- what a position is that no rule but 7 applies to
+pub record Unbroken (spns starts widths : List ℕ) (i : ℕ) : Type 0 where
+  pub known : unknown (numberAt widths) i ≡ false
+  pub there : eqb (numberAt widths i) mark ≡ false
+  pub once : repeated (numberAt spns) i ≡ false
+  pub rising : notAbove (numberAt starts) i ≡ false
+  pub even : uneven (numberAt starts) (numberAt widths) i ≡ false
+  pub apart : overlaps (numberAt starts) (numberAt widths) i ≡ false
 
-  each : (i : ℕ) → i < n → Clear i
-  each i l =
-      let (ab, f) = neither _ _ (lowest-each (broken spns starts widths) n none i l) in
-      let (a, e) = neither _ _ ab in
-      let (abcd, g) = neither _ _ a in
-      let (abc, d) = neither _ _ abcd in
-      let (two, c) = neither _ _ abc in
-      let (known, there) = neither _ _ two in
-      record {
-        here = rw (inside i l) there;
-        known = known;
-        once = e;
-        rising = sym (below-floor (numberAt starts) i) ∙ c;
-        even = d;
-        apart = f;
-        within = g;
-      }
+unbroken : (spns starts widths : List ℕ) (i : ℕ) → broken spns starts widths i ≡ false → Unbroken spns starts widths i
+unbroken spns starts widths i e =
+    let (ab, cd) = neither _ _ e in
+    let (a, b) = neither _ _ ab in
+    let (c, d) = neither _ _ cd in
+    let (two, odd) = neither _ _ a in
+    let (known, there) = neither _ _ two in
+    record { known = known; there = there; once = b; rising = c; even = odd; apart = d }
 
-  pub all-clear : Left n transport spns starts widths []
-  all-clear =
-      plainly n transport spns starts widths
-      ∙ skip 2 _ _ _ _ refl (lowest-none _ n (λ i l. each i l .here))
-      ∙ skip 3 _ _ _ _ refl (lowest-none _ n (λ i l. each i l .known))
-      ∙ skip 4 _ _ _ _ refl (lowest-none _ n (λ i l. each i l .once))
-      ∙ skip 5 _ _ _ _ refl (lowest-none _ n (λ i l. each i l .rising))
-      ∙ skip 9 _ _ _ _ refl (lowest-none _ n (λ i l. each i l .even))
-      ∙ skip 6 _ _ _ _ refl (lowest-none _ n (λ i l. each i l .apart))
-      ∙ skip 7 _ _ _ _ refl (lowest-none _ n (λ i l. each i l .within))
+-- so each has a width
+pub wide : (spns starts widths : List ℕ) (i : ℕ) → None (broken spns starts widths) i → Wide widths i
+wide spns starts widths i none j l =
+    let some = eqb-false (numberAt widths j) 0 (unbroken spns starts widths j (none j l) .known) in
+    omega (arith, some)
+
+module _
+    (n : ℕ) (transport : Bool) (spns starts widths : List ℕ) (long : n ≤ shortest spns starts widths)
+    (none : lowest (broken spns starts widths) n ≡ 0) (within : endTo starts widths n ≤ 14280)
+  where
+    each : (i : ℕ) → i < n → Unbroken spns starts widths i
+    each i l = unbroken spns starts widths i (lowest-each (broken spns starts widths) n none i l)
+
+    here : (i : ℕ) → i < n → marked (shortest spns starts widths) widths i ≡ false
+    here i l = rw (lt-leb (shortest spns starts widths) i (omega arith)) (each i l .there)
+
+    ends : (i : ℕ) → i < n → beyond (numberAt starts) (numberAt widths) i ≡ false
+    ends i l = le-ltb 14280 (endIn starts widths i) (omega (arith, within, end-le starts widths i n l))
+
+    pub all-clear : Left n transport spns starts widths []
+    all-clear =
+        plainly n transport spns starts widths
+        ∙ skip 2 _ _ _ _ refl (lowest-none _ n here)
+        ∙ skip 3 _ _ _ _ refl (lowest-none _ n (λ i l. each i l .known))
+        ∙ skip 4 _ _ _ _ refl (lowest-none _ n (λ i l. each i l .once))
+        ∙ skip 5 _ _ _ _ refl (lowest-none _ n (λ i l. each i l .rising))
+        ∙ skip 9 _ _ _ _ refl (lowest-none _ n (λ i l. each i l .even))
+        ∙ skip 6 _ _ _ _ refl (lowest-none _ n (λ i l. each i l .apart))
+        ∙ skip 7 _ _ _ _ refl (lowest-none _ n ends)

@@ -1,30 +1,32 @@
--- All rules of one position at once, as the walk over a map asks them (01, "A set and its judgement"): only the promises of private functions cite these. Assumes nothing.
-use Prim.Native.Nat.{ℕ, zero, suc, _%_, _<_}
+-- The rules of one position at once, as the walk over a map asks them (01, "A set and its judgement"): only the promises of private functions cite these. Assumes nothing.
+use Prim.Native.Nat.{ℕ, _%_, _<_}
 use mathlib.Core.Path.{_≡_}
 use mathlib.Core.Bool.{Bool, not, _&&_, _||_}
 use mathlib.Core.List.{List}
-use lib.Dec.{eqb, ltb}
+use lib.Dec.{eqb}
 use lib.ListN.{getD}
-use Rattle.places.specs.Place.{odd, endOf}
-use Rattle.judge.specs.Judge.{mark, numberAt, repeated, overlaps}
+use Rattle.places.specs.Place.{odd}
+use Rattle.judge.specs.Judge.{mark, numberAt, repeated, notAbove, overlaps}
 
--- the least start that rule 5 lets stand at an index: one above the start before, and any at the first
-unfoldable pub floorAt : (ℕ → ℕ) → ℕ → ℕ
-floorAt start zero = 0
-floorAt start (suc i) = suc (start i)
+-- each parameter below an index has a width
+abbrev pub Wide : List ℕ → ℕ → Type 0
+Wide widths i = (j : ℕ) → j < i → 0 < numberAt widths j
 
 -- the mark of each SPN below an index is set
 abbrev pub Passed : List ℕ → List ℕ → ℕ → Type 0
 Passed seen spns i = (j : ℕ) → j < i → getD seen (numberAt spns j % 256) 0 ≡ 1
 
--- 3, 2, 5, 9 or 7 applies to a parameter, by its numbers and that least start
-abbrev pub brokenBy : ℕ → ℕ → ℕ → Bool
-brokenBy start width floor =
-    eqb width 0 || eqb width mark || ltb start floor || (odd width && not (eqb (start % 8) 0)) || ltb 14280 (endOf start width)
+-- 3, 2 or 9 applies to a parameter, by its own numbers
+abbrev pub brokenBy : ℕ → ℕ → Bool
+brokenBy start width = eqb width 0 || eqb width mark || (odd width && not (eqb (start % 8) 0))
 
--- any of the rules applies at an index that all three slices have
+-- 5 or 6 applies at an index
+abbrev pub crossing : (ℕ → ℕ) → (ℕ → ℕ) → ℕ → Bool
+crossing start width i = notAbove start i || overlaps start width i
+
+-- any of the rules but 7 applies at an index that all three slices have
 abbrev pub broken : List ℕ → List ℕ → List ℕ → ℕ → Bool
 broken spns starts widths i =
-    brokenBy (numberAt starts i) (numberAt widths i) (floorAt (numberAt starts) i)
+    brokenBy (numberAt starts i) (numberAt widths i)
     || repeated (numberAt spns) i
-    || overlaps (numberAt starts) (numberAt widths) i
+    || crossing (numberAt starts) (numberAt widths) i

@@ -10,7 +10,7 @@ ghost use Rattle.words.specs.First.{lowest};
 ghost use Rattle.places.specs.Place.{odd, sharesBit, endIn, endTo, bytesFor};
 ghost use Rattle.answers.specs.Answers.{at};
 ghost use Rattle.judge.specs.Judge.{numberAt, shortest as shortestOf, marked, unknown, repeated, notAbove, uneven, overlaps, beyond, wrongTransport, judgeOver, inSlices};
-ghost use Rattle.judge.specs.Walk.{floorAt, Passed, brokenBy, broken};
+ghost use Rattle.judge.specs.Walk.{Wide, Passed, brokenBy, crossing, broken};
 use answers::Judgement;
 
 // The width that says "nothing stands at this position".
@@ -123,14 +123,25 @@ fn lowest_repeated(n: u8, spns: &[u32]) -> u8
     0
 }
 
+// Whether the start at index i is not above the one before; the first has none before it.
+fn is_not_above(starts: &[u32], i: u8) -> bool
+    requires { ⌜ i < length (now starts) ⌝ }
+    ensures { λ r. ⌜ r ≡ notAbove (numberAt (now (starts .entry))) i ⌝ }
+{
+    if i == 0 {
+        return false;
+    }
+    number_at(starts, i) <= number_at(starts, i - 1)
+}
+
 // The lowest position whose start is not above the one before, or 0.
 fn lowest_not_above(n: u8, starts: &[u32]) -> u8
     requires { ⌜ n ≤ length (now starts) ⌝ }
     ensures { λ r. ⌜ r ≡ lowest (notAbove (numberAt (now (starts .entry)))) n ⌝ }
 {
-    let mut rising = 1;
+    let mut rising = 0;
     while rising < n {
-        if number_at(starts, rising) <= number_at(starts, rising - 1) {
+        if is_not_above(starts, rising) {
             return rising + 1;
         }
         rising += 1;
@@ -317,32 +328,27 @@ fn is_again(seen: &[u8; MARKS], spns: &[u32], i: u8) -> bool
     is_repeated(spns, i)
 }
 
-// Whether the parameter at index i shares a bit with an earlier one, where the largest end of the earlier ones is known: they are looked at only where the parameter starts below it, which it may, in the low bits
-// that an odd width skips.
-fn is_overlap(end: u64, starts: &[u32], widths: &[u32], i: u8) -> bool
-    requires { ⌜ (i < length (now starts)) × (i < length (now widths)) × (end ≡ endTo (now starts) (now widths) i) ⌝ }
-    ensures { λ r. ⌜ r ≡ overlaps (numberAt (now (starts .entry))) (numberAt (now (widths .entry))) i ⌝ }
+// Whether the parameter at index i does not start above the one before, or shares a bit with an earlier one, where the largest end of the earlier ones is known. What starts at or after that end does
+// neither; what starts below it may share none, in the low bits that an odd width skips.
+fn is_crossing(end: u64, starts: &[u32], widths: &[u32], i: u8) -> bool
+    requires { ⌜ (i < length (now starts)) × (i < length (now widths)) × (end ≡ endTo (now starts) (now widths) i) × Wide (now widths) i ⌝ }
+    ensures { λ r. ⌜ r ≡ crossing (numberAt (now (starts .entry))) (numberAt (now (widths .entry))) i ⌝ }
 {
     if end <= number_at(starts, i) as u64 {
         return false;
     }
-    shares_earlier(starts, widths, i)
+    is_not_above(starts, i) | shares_earlier(starts, widths, i)
 }
 
-// Whether a rule applies that looks at no other parameter, or only at the start before: `floor` is one above that start.
-fn is_broken_alone(start: u32, width: u32, floor: u64) -> bool
-    ensures { λ r. ⌜ r ≡ brokenBy start width floor ⌝ }
+// Whether a rule applies that looks at one parameter alone: 2, 3 or 9.
+fn is_broken_alone(start: u32, width: u32) -> bool
+    ensures { λ r. ⌜ r ≡ brokenBy start width ⌝ }
 {
-    (width == 0)
-        | (width == MISSING)
-        | ((start as u64) < floor)
-        | (places::is_odd(width) & (start % 8 != 0))
-        | is_beyond(places::end_bit(start, width))
+    (width == 0) | (width == MISSING) | (places::is_odd(width) & (start % 8 != 0))
 }
 
-// Whether any rule applies to the parameter at index i, by what the walk knows of the lower ones.
+// Whether any rule but 7 applies to the parameter at index i, by what the walk knows of the lower ones.
 fn is_broken(
-    floor: u64,
     end: u64,
     seen: &[u8; MARKS],
     spns: &[u32],
@@ -351,37 +357,35 @@ fn is_broken(
     i: u8,
 ) -> bool
     requires { ⌜ (i < length (now spns)) × (i < length (now starts)) × (i < length (now widths))
-        × (floor ≡ floorAt (numberAt (now starts)) i) × (end ≡ endTo (now starts) (now widths) i) × Passed (now seen) (now spns) i ⌝ }
+        × (end ≡ endTo (now starts) (now widths) i) × Wide (now widths) i × Passed (now seen) (now spns) i ⌝ }
     ensures { λ r. ⌜ r ≡ broken (now (spns .entry)) (now (starts .entry)) (now (widths .entry)) i ⌝ }
 {
-    if is_broken_alone(number_at(starts, i), number_at(widths, i), floor) {
+    if is_broken_alone(number_at(starts, i), number_at(widths, i)) {
         return true;
     }
     if is_again(seen, spns, i) {
         return true;
     }
-    is_overlap(end, starts, widths, i)
+    is_crossing(end, starts, widths, i)
 }
 
-// The lowest position that any rule applies to, or 0; where there is none, also the largest end of all. Most maps are usable: of them this is all that is looked at.
+// The lowest position that any rule but 7 applies to, or 0; where there is none, also the largest end of all, which says whether 7 applies. Most maps are usable: of them this is all that is looked at.
 fn walk(n: u8, spns: &[u32], starts: &[u32], widths: &[u32]) -> Swept
     requires { ⌜ (n ≤ length (now spns)) × (n ≤ length (now starts)) × (n ≤ length (now widths)) ⌝ }
     ensures { λ r. ⌜ (r .position ≡ lowest (broken (now (spns .entry)) (now (starts .entry)) (now (widths .entry))) n)
         × (r .position ≡ 0 → r .end ≡ endTo (now (starts .entry)) (now (widths .entry)) n) ⌝ }
 {
     let mut seen = [0u8; MARKS];
-    let mut floor = 0;
     let mut end = 0;
     let mut clear = 0;
     while clear < n {
-        if is_broken(floor, end, &seen, spns, starts, widths, clear) {
+        if is_broken(end, &seen, spns, starts, widths, clear) {
             return Swept {
                 position: clear + 1,
                 end,
             };
         }
         seen[mark_of(number_at(spns, clear))] = 1;
-        floor = number_at(starts, clear) as u64 + 1;
         end = larger(end, end_at(starts, widths, clear));
         clear += 1;
     }
@@ -397,7 +401,7 @@ pub fn judge(n: u8, transport: bool, spns: &[u32], starts: &[u32], widths: &[u32
         return by_rules(n, transport, spns, starts, widths);
     }
     let walked = walk(n, spns, starts, widths);
-    if walked.position != 0 { // which rule comes first
+    if (walked.position != 0) | is_beyond(walked.end) { // which rule comes first
         return by_rules(n, transport, spns, starts, widths);
     }
     last_word(transport, walked.end)

@@ -2,6 +2,7 @@
 // and save; this program only reads (crate reading) and writes. Where the log can't be read to its end, it writes nothing: an image is whole or not there.
 ghost use Prim.Native.Nat.{_≤_};
 use libc::STDOUT_FILENO;
+use lookup::Table;
 use lookup::WORDS;
 
 // As many bytes as the buffer has, at most.
@@ -12,7 +13,7 @@ fn within(n: usize) -> usize
 }
 
 // Whether the whole image was written. No table that a log teaches has a longer one than the buffer.
-fn print(t: &[u64; WORDS]) -> bool {
+fn print(t: &Table) -> bool {
     let mut image = [0u8; save::MOST];
     save::save(t, &mut image);
     let n = within(save::size(t));

@@ -32,6 +32,15 @@ pub fn numbers(list: &[u32]) {
     }
 }
 
+// The same of 64 bits.
+pub fn longs(list: &[u64]) {
+    let mut i = 0;
+    while i < list.len() {
+        long(list[i]);
+        i += 1;
+    }
+}
+
 fn hex(b: u8) {
     io::print_hex(STDOUT_FILENO, b as u64, 2);
 }
@@ -53,6 +62,11 @@ pub fn bytes(list: &[u8]) {
 // The end of a line.
 pub fn end() {
     io::write_all(STDOUT_FILENO, b"\n");
+}
+
+// Reads a case over a buffer that is as long; false where the input ends.
+pub fn case(b: &mut [u8]) -> bool {
+    b.len() <= io::read_full(STDIN_FILENO, b)
 }
 
 // Two bytes as a number, the least significant first.

@@ -2,10 +2,11 @@
 // the crates feeding and listing; this program only reads (crate reading) and writes, and keeps no more than the table and the tally.
 use feeding::Tally;
 use libc::STDOUT_FILENO;
+use lookup::Table;
 use lookup::WORDS;
 
 // Whether the whole listing was written.
-fn print(t: &[u64; WORDS], tally: Tally) -> bool {
+fn print(t: &Table, tally: Tally) -> bool {
     let mut page = [0u8; listing::PAGE];
     let a = listing::finish(t, tally, &mut page);
     let n = io::count(a.detail as isize, &page);

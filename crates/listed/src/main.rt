@@ -2,10 +2,11 @@
 // a log's does. All that matters is proved in the crates load and listing. Of a damaged image nothing is listed, and a line on standard error says so.
 use libc::STDERR_FILENO;
 use libc::STDOUT_FILENO;
+use lookup::Table;
 use lookup::WORDS;
 
 // Whether the whole listing was written.
-fn print(t: &[u64; WORDS]) -> bool {
+fn print(t: &Table) -> bool {
     let mut page = [0u8; listing::PAGE];
     let a = listing::finish(t, feeding::start(), &mut page);
     let n = io::count(a.detail as isize, &page);

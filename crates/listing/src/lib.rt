@@ -12,7 +12,7 @@ use feeding::Counts;
 use feeding::Tally;
 use lookup::Next;
 use lookup::ROWS;
-use lookup::WORDS;
+use lookup::Table;
 use message::Key;
 
 // So many bytes hold any listing (proofs/Widths.antt).
@@ -33,7 +33,7 @@ fn put_line(out: &mut [u8], at: usize, key: Key, n: u8, judged: u8, position: u8
 }
 
 // Lays the line of one key, by what the table holds of it.
-fn put_key(t: &[u64; WORDS], out: &mut [u8], at: usize, key: Key) -> usize
+fn put_key(t: &Table, out: &mut [u8], at: usize, key: Key) -> usize
     ensures { λ r. ⌜ page r (now (out .exit)) ≡ putAll (page at (now (out .entry))) (keyLine key (editionIn (now (t .entry)) key) (mapIn (now (t .entry)) key)) ⌝ }
 {
     let n = ask::count(t, key.source, key.destination, key.k);
@@ -45,7 +45,7 @@ fn put_key(t: &[u64; WORDS], out: &mut [u8], at: usize, key: Key) -> usize
 }
 
 // Lays the lines of the held keys, rising; 16 rows hold no more than 16.
-fn put_keys(t: &[u64; WORDS], out: &mut [u8], at: usize) -> usize
+fn put_keys(t: &Table, out: &mut [u8], at: usize) -> usize
     ensures { λ r. ⌜ page r (now (out .exit)) ≡ putAll (page at (now (out .entry))) (keyLines (editionIn (now (t .entry))) (mapIn (now (t .entry))) (heldKeys (now (t .entry)))) ⌝ }
 {
     let mut place = at;
@@ -78,7 +78,7 @@ pub fn put_last(out: &mut [u8], at: usize, c: Counts, left: usize) -> usize
 // ---- the listing
 
 // Lays the whole listing.
-fn put_listing(t: &[u64; WORDS], s: Tally, out: &mut [u8]) -> usize
+fn put_listing(t: &Table, s: Tally, out: &mut [u8]) -> usize
     ensures { λ r. ⌜ page r (now (out .exit)) ≡ putAll (page 0 (now (out .entry))) (piecesOf (now (t .entry)) s) ⌝ }
 {
     let at = text::put_bytes(out, 0, b"SRC DST MSG N JUDGED AT\n");
@@ -89,7 +89,7 @@ fn put_listing(t: &[u64; WORDS], s: Tally, out: &mut [u8]) -> usize
 }
 
 // Lays the listing over the start of `out`: 0 with its length, or 13 and nothing written where `out` is too short. 512 bytes are never too short.
-pub fn finish(t: &[u64; WORDS], s: Tally, out: &mut [u8]) -> Answer
+pub fn finish(t: &Table, s: Tally, out: &mut [u8]) -> Answer
     ensures { λ r. ⌜ outcome (inNumbers r) (now (out .exit)) ≡ finished (now (t .entry)) s (now (out .entry)) ⌝ }
 {
     let mut page = [0u8; PAGE];

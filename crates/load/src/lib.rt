@@ -13,6 +13,7 @@ use answers::Answer;
 use keyrow::EDITION_2004;
 use keyrow::EDITION_2010;
 use lookup::Next;
+use lookup::Table;
 use lookup::WORDS;
 use message::Key;
 use save::MOST;
@@ -55,7 +56,7 @@ pub fn edition_said(byte: u8) -> u32
 }
 
 // Hears the frame of a key whose data bytes 4 to 8 stand at p.
-fn hear(t: &mut [u64; WORDS], image: &[u8], source: u8, destination: u8, k: u8, p: usize)
+fn hear(t: &mut Table, image: &[u8], source: u8, destination: u8, k: u8, p: usize)
     requires { ⌜ p ≤ 65536 ⌝ }
     ensures { λ _. ⌜ now (t .exit) ≡ fedOne (now (t .entry)) (now (image .entry)) (keyOf source destination k) p ⌝ }
 {
@@ -76,15 +77,7 @@ fn hear(t: &mut [u64; WORDS], image: &[u8], source: u8, destination: u8, k: u8, 
 }
 
 // Hears the n frames of a body that stands at p.
-fn feed_body(
-    t: &mut [u64; WORDS],
-    image: &[u8],
-    source: u8,
-    destination: u8,
-    k: u8,
-    p: usize,
-    n: u8,
-)
+fn feed_body(t: &mut Table, image: &[u8], source: u8, destination: u8, k: u8, p: usize, n: u8)
     requires { ⌜ (p ≤ 60000) × (n ≤ 31) ⌝ }
     ensures { λ _. ⌜ now (t .exit) ≡ fedBody (now (t .entry)) (now (image .entry)) (keyOf source destination k) p n ⌝ }
 {
@@ -98,7 +91,7 @@ fn feed_body(
 }
 
 // Hears every frame that an image stands for.
-fn hear_all(t: &mut [u64; WORDS], image: &[u8])
+fn hear_all(t: &mut Table, image: &[u8])
     ensures { λ _. ⌜ now (t .exit) ≡ fedFrames (now (t .entry)) (now (image .entry)) ⌝ }
 {
     let form = form_of(image);
@@ -124,7 +117,7 @@ fn hear_all(t: &mut [u64; WORDS], image: &[u8])
 }
 
 // Gives each key the edition that its row says.
-fn set_editions(t: &mut [u64; WORDS], image: &[u8])
+fn set_editions(t: &mut Table, image: &[u8])
     ensures { λ _. ⌜ now (t .exit) ≡ fedEditions (now (t .entry)) (now (image .entry)) 2 (rowCount (now (image .entry))) ⌝ }
 {
     let mut left = byte_at(image, 1);
@@ -143,7 +136,7 @@ fn set_editions(t: &mut [u64; WORDS], image: &[u8])
 }
 
 // All that an image stands for: its frames, and then the editions of its keys, which form 1 has not.
-fn feed(t: &mut [u64; WORDS], image: &[u8])
+fn feed(t: &mut Table, image: &[u8])
     ensures { λ _. ⌜ now (t .exit) ≡ fedAll (now (t .entry)) (now (image .entry)) ⌝ }
 {
     hear_all(t, image);
@@ -192,7 +185,7 @@ pub fn check(image: &[u8]) -> bool
 // ---- loading
 
 // Loads an image into an empty table: 21 where it is damaged, 23 where a key is held, and the table is left as it was; else 0.
-pub fn load(t: &mut [u64; WORDS], image: &[u8]) -> Answer
+pub fn load(t: &mut Table, image: &[u8]) -> Answer
     ensures { λ r. ⌜ outcome (inNumbers r) (now (t .exit)) ≡ loaded (now (t .entry)) (now (image .entry)) ⌝ }
 {
     if check(image) {

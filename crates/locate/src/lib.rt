@@ -20,7 +20,7 @@ use frame::Three;
 use keyrow::FORM;
 use lookup::Next;
 use lookup::ROWS;
-use lookup::WORDS;
+use lookup::Table;
 use message::Head;
 use message::Key;
 use message::Message;
@@ -82,7 +82,7 @@ fn mentions(row: &[u64], spn: u32) -> bool
 }
 
 // The position at which a key answers: its source is our own address, its map is usable, and the SPN has that position there. 0 where it does not answer.
-fn position_told(t: &[u64; WORDS], asked: Asked, key: Key) -> u8
+fn position_told(t: &Table, asked: Asked, key: Key) -> u8
     ensures { λ r. ⌜ r ≡ positionTold (widthFor (now (t .entry)) key) (asked .own) (asked .spn) key (mapIn (now (t .entry)) key) ⌝ }
 {
     if key.source != asked.own {
@@ -104,7 +104,7 @@ fn one_for(position: u8) -> u32
 }
 
 // Looks at every held key once; 16 rows hold no more than 16.
-fn look_all(t: &[u64; WORDS], asked: Asked) -> Places
+fn look_all(t: &Table, asked: Asked) -> Places
     ensures { λ r. ⌜ (r .positions ≡ positionsOf (widthFor (now (t .entry))) (now (t .entry)) (asked .own) (asked .spn))
         × (r .count ≡ length (locatedKeys (widthFor (now (t .entry))) (now (t .entry)) (asked .own) (asked .spn))) ⌝ }
 {
@@ -140,7 +140,7 @@ fn is_short(size: usize, start: usize, count: u32) -> bool
 // ---- laying
 
 // n and the flags as the key's row has them.
-fn head_of(t: &[u64; WORDS], key: Key) -> Head
+fn head_of(t: &Table, key: Key) -> Head
     ensures { λ r. ⌜ r ≡ headOf (formWord (rowFor (now (t .entry)) key)) ⌝ }
 {
     let row = lookup::row_of(t, key.source, key.destination, key.k);
@@ -151,7 +151,7 @@ fn head_of(t: &[u64; WORDS], key: Key) -> Head
 }
 
 // The message of a key that has the SPN at a position.
-fn message_at(t: &[u64; WORDS], asked: Asked, key: Key, position: u8) -> Message
+fn message_at(t: &Table, asked: Asked, key: Key, position: u8) -> Message
     ensures { λ r. ⌜ r ≡ messageAt (widthFor (now (t .entry)) key) (now (t .entry)) (asked .spn) key position ⌝ }
 {
     let head = head_of(t, key);
@@ -182,14 +182,7 @@ fn put_record(log: &mut [u8], at: usize, m: Message) -> usize
 }
 
 // Lays the record of a key that answers.
-fn put_told(
-    t: &[u64; WORDS],
-    asked: Asked,
-    key: Key,
-    position: u8,
-    log: &mut [u8],
-    at: usize,
-) -> usize
+fn put_told(t: &Table, asked: Asked, key: Key, position: u8, log: &mut [u8], at: usize) -> usize
     ensures { λ r. ⌜ page r (now (log .exit)) ≡ putAll (page at (now (log .entry))) (pieceAt (widthFor (now (t .entry)) key) (now (t .entry)) (asked .spn) key position) ⌝ }
 {
     if position == 0 {
@@ -199,13 +192,7 @@ fn put_told(
 }
 
 // Lays the records of the keys that answer, rising.
-fn put_all(
-    t: &[u64; WORDS],
-    asked: Asked,
-    positions: &[u8; ROWS],
-    log: &mut [u8],
-    start: usize,
-) -> usize
+fn put_all(t: &Table, asked: Asked, positions: &[u8; ROWS], log: &mut [u8], start: usize) -> usize
     requires { ⌜ now positions ≡ positionsOf (widthFor (now t)) (now t) (asked .own) (asked .spn) ⌝ }
     ensures { λ r. ⌜ page r (now (log .exit))
         ≡ putAll (page start (now (log .entry))) (piecesOf (located (widthFor (now (t .entry))) (now (t .entry)) (asked .own) (asked .spn))) ⌝ }
@@ -239,7 +226,7 @@ fn answer_none(size: usize, start: usize) -> Answer
 }
 
 // To a request that is ours: each key is judged once and counted, and the records are written where there is room for all of them.
-fn answer_all(t: &[u64; WORDS], asked: Asked, log: &mut [u8], start: usize) -> Answer
+fn answer_all(t: &Table, asked: Asked, log: &mut [u8], start: usize) -> Answer
     ensures { λ r. ⌜ outcome (inNumbers r) (now (log .exit)) ≡ laidOut (located (widthFor (now (t .entry))) (now (t .entry)) (asked .own) (asked .spn)) (now (log .entry)) start ⌝ }
 {
     let places = look_all(t, asked);
@@ -255,7 +242,7 @@ fn answer_all(t: &[u64; WORDS], asked: Asked, log: &mut [u8], start: usize) -> A
 // Answers a frame that may be a Parameter Locate: 1, 2, 3, 24, 13, else 0 with the count of the records that it has laid into `log` from byte `start` on. `own` is our
 // own address. Every test is made before the first byte is written; no other byte of the log changes.
 pub fn locate(
-    t: &[u64; WORDS],
+    t: &Table,
     own: u8,
     id: u32,
     len: u8,

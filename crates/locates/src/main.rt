@@ -14,6 +14,7 @@ use lines::four;
 use lines::front;
 use lines::more;
 use lines::two;
+use lookup::Table;
 use lookup::WORDS;
 
 // The eight data bytes of a case.
@@ -28,7 +29,7 @@ fn start(b: &[u8; 32]) -> usize {
     low + high * 4294967296
 }
 
-fn locate(t: &[u64; WORDS], b: &[u8; 32], log: &mut [u8]) {
+fn locate(t: &Table, b: &[u8; 32], log: &mut [u8]) {
     io::read_full(STDIN_FILENO, log);
     let d = data(b);
     let a = locate::locate(
@@ -46,7 +47,14 @@ fn locate(t: &[u64; WORDS], b: &[u8; 32], log: &mut [u8]) {
     end();
 }
 
-fn run(t: &mut [u64; WORDS], b: &[u8; 32]) {
+// The log behind a case has room in a buffer.
+fn lend(t: &Table, b: &[u8; 32]) {
+    let mut log = io::buffer();
+    let n = front(two(b[15], b[16]), &log);
+    locate(t, b, &mut log[..n]);
+}
+
+fn run(t: &mut Table, b: &[u8; 32]) {
     match b[0] {
         0 => table::empty(t),
         1 => {
@@ -59,30 +67,17 @@ fn run(t: &mut [u64; WORDS], b: &[u8; 32]) {
         4 => {
             edition::set_edition(t, b[1], b[2], b[3], four(b[4], b[5], b[6], b[7]));
         }
-        _ => {
-            let mut log = io::buffer();
-            let n = front(two(b[15], b[16]), &log);
-            locate(t, b, &mut log[..n]);
-        }
+        _ => lend(t, b),
     }
-}
-
-// Reads one case and runs it; false where the input ends.
-fn case(t: &mut [u64; WORDS]) -> bool {
-    let mut b = [0u8; 32];
-    let n = io::read_full(STDIN_FILENO, &mut b);
-    if n < 32 {
-        return false;
-    }
-    run(t, &b);
-    true
 }
 
 // What the calls are lent stands here. A proved loop has to end, so it counts its turns down, from a number that no run uses up.
 fn main() {
     let mut t = [0u64; WORDS];
+    let mut b = [0u8; 32];
     let mut turns = u64::MAX;
-    while turns > 0 && case(&mut t) {
+    while turns > 0 && lines::case(&mut b) {
+        run(&mut t, &b);
         turns -= 1;
     }
 }

@@ -22,6 +22,9 @@ pub const WORDS: usize = 1072;
 
 pub const ROWS: usize = 16;
 
+// The words of a table, as the caller lends them.
+pub type Table = [u64; WORDS];
+
 // Every key's number is below this.
 const KEY_NUMBERS: u64 = 16777216;
 
@@ -34,7 +37,7 @@ pub enum Next {
 // ---- rows
 
 // The lowest row that holds the key with this number, or 16.
-pub fn slot_in(t: &[u64; WORDS], key: u64) -> usize
+pub fn slot_in(t: &Table, key: u64) -> usize
     ensures { λ r. ⌜ r ≡ slotOf (now (t .entry)) key ⌝ }
 {
     let words = &t[..];
@@ -50,14 +53,14 @@ pub fn slot_in(t: &[u64; WORDS], key: u64) -> usize
 }
 
 // The number of the row that holds a key, 0 to 15, or 16.
-pub fn slot_of(t: &[u64; WORDS], source: u8, destination: u8, k: u8) -> usize
+pub fn slot_of(t: &Table, source: u8, destination: u8, k: u8) -> usize
     ensures { λ r. ⌜ r ≡ slotOf (now (t .entry)) (keyNumber (keyOf source destination k)) ⌝ }
 {
     slot_in(t, key_number(source, destination, k))
 }
 
 // The lowest row that is free, or 16.
-pub fn free_slot(t: &[u64; WORDS]) -> usize
+pub fn free_slot(t: &Table) -> usize
     ensures { λ r. ⌜ r ≡ freeSlot (now (t .entry)) ⌝ }
 {
     let words = &t[..];
@@ -72,7 +75,7 @@ pub fn free_slot(t: &[u64; WORDS]) -> usize
 }
 
 // The row of a key, with no word where the key is not held; the table's length, which its type says, is handed on with it.
-pub fn row_of(t: &[u64; WORDS], source: u8, destination: u8, k: u8) -> &[u64]
+pub fn row_of(t: &Table, source: u8, destination: u8, k: u8) -> &[u64]
     ensures { λ r. ⌜ (now r ≡ rowFor (now (t .entry)) (keyOf source destination k)) × (length (now (t .entry)) ≡ tableWords) ⌝ }
 {
     let i = slot_of(t, source, destination, k);
@@ -86,7 +89,7 @@ pub fn row_of(t: &[u64; WORDS], source: u8, destination: u8, k: u8) -> &[u64]
 }
 
 // The edition of a key, 2010 where it is not held.
-pub fn edition_of(t: &[u64; WORDS], source: u8, destination: u8, k: u8) -> u32
+pub fn edition_of(t: &Table, source: u8, destination: u8, k: u8) -> u32
     ensures { λ r. ⌜ r ≡ editionIn (now (t .entry)) (keyOf source destination k) ⌝ }
 {
     let row = row_of(t, source, destination, k);
@@ -110,7 +113,7 @@ fn nearer(state: u64, word: u64, from: u64, best: u64) -> u64
 }
 
 // The lowest number of a held key, from a number on, or 2^24.
-fn lowest_from(t: &[u64; WORDS], from: u64) -> u64
+fn lowest_from(t: &Table, from: u64) -> u64
     ensures { λ r. ⌜ r ≡ lowestFrom (now (t .entry)) from ⌝ }
 {
     let words = &t[..];
@@ -139,14 +142,14 @@ fn key_at(x: u64) -> Next
 }
 
 // The lowest held key.
-pub fn first_key(t: &[u64; WORDS]) -> Next
+pub fn first_key(t: &Table) -> Next
     ensures { λ r. ⌜ keyFound r ≡ firstKey (now (t .entry)) ⌝ }
 {
     key_at(lowest_from(t, 0))
 }
 
 // The lowest held key above the given one.
-pub fn next_key(t: &[u64; WORDS], source: u8, destination: u8, k: u8) -> Next
+pub fn next_key(t: &Table, source: u8, destination: u8, k: u8) -> Next
     ensures { λ r. ⌜ keyFound r ≡ nextKey (now (t .entry)) (keyOf source destination k) ⌝ }
 {
     key_at(lowest_from(t, key_number(source, destination, k) + 1))

@@ -17,12 +17,10 @@ use Rattle.dictionary.specs.Dictionary.{widthOf, numberOf, foundRow}
 use Rattle.dictionary.proofs.Table.{number-here, number-nowhere, number-some, width-absent}
 use Rattle.words.proofs.Tests.{test}
 use Rattle.slots.specs.declared.Slot.{Slot}
-use Rattle.slots.specs.Slots.{slot, slotAt}
+use Rattle.slots.specs.Slots.{slotAt}
 use Rattle.slots.proofs.Slots.{Ruled, row-ruled}
 use Rattle.states.specs.States.{kindOf, stateBy, stateOf}
-use Rattle.meaning.specs.declared.Meaning.{Meaning}
-use Rattle.meaning.specs.declared.Scaled.{Scaled}
-use Rattle.meaning.specs.Meaning.{slotIn, slotOf, meaningOf, scale, scaledOf}
+use Rattle.meaning.specs.Meaning.{slotIn, slotOf, meaningOf, scaledOf}
 
 -- ---- differences
 

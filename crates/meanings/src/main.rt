@@ -1,6 +1,5 @@
 // Runs what numbers mean on the cases of standard input and writes a line for each. tests/model.py wrote the cases and the lines that must come out. A case is an SPN and
 // a number, four bytes each, the least significant first; its line is the SPN's width, resolution, offset and kind, and the number's state and its value in thousandths.
-use libc::STDIN_FILENO;
 use libc::STDOUT_FILENO;
 use lines::end;
 use lines::four;
@@ -28,21 +27,16 @@ fn line(spn: u32, number: u32) {
     end();
 }
 
-// Reads one case and runs it; false where the input ends.
-fn case() -> bool {
-    let mut b = [0u8; 8];
-    let n = io::read_full(STDIN_FILENO, &mut b);
-    if n < 8 {
-        return false;
-    }
+fn run(b: &[u8; 8]) {
     line(four(b[0], b[1], b[2], b[3]), four(b[4], b[5], b[6], b[7]));
-    true
 }
 
 // A proved loop has to end, so it counts its turns down, from a number that no run uses up.
 fn main() {
+    let mut b = [0u8; 8];
     let mut turns = u64::MAX;
-    while turns > 0 && case() {
+    while turns > 0 && lines::case(&mut b) {
+        run(&b);
         turns -= 1;
     }
 }

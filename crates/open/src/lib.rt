@@ -19,7 +19,7 @@ use keyrow::FORM;
 use keyrow::HELD;
 use keyrow::POSITIONS;
 use keyrow::STATE;
-use lookup::WORDS;
+use lookup::Table;
 ghost use Rattle.lookup.specs.View.{mapIn};
 
 // What opening a key's map gives: 11, or 0 with the judgement; the judgement of what its row holds, which of a key in conflict is that of the map before the contradiction; n and the flags, all 0 where the
@@ -154,7 +154,7 @@ fn open_row(row: &[u64], spns: &mut [u32], starts: &mut [u32], widths: &mut [u32
 // n, at most 64, over the start of the arrays. The width is `judge::MISSING` where nothing stands, and 0 where the dictionary of the key's edition does not have the SPN. Of a
 // key in conflict the row is read as it stood when the conflict came.
 pub fn open(
-    t: &[u64; WORDS],
+    t: &Table,
     source: u8,
     destination: u8,
     k: u8,

@@ -123,6 +123,13 @@ unfolding sharesBit
 shares-after s1 w1 s2 w2 h =
     meet-none (place s1 w1) w1 (place s2 w2) w2 (λ k l m n e. omega (arith, place-lt s1 w1 k m, start-le s2 w2 l))
 
+-- one that stands in the low bits that another skips shares no bit with it
+pub shares-skipped : (s1 w1 s2 w2 : ℕ) → s1 + whole w1 ≤ s2 → endOf s2 w2 ≤ left s1 w1 → sharesBit s1 w1 s2 w2 ≡ false
+unfolding sharesBit
+shares-skipped s1 w1 s2 w2 h g =
+    meet-none (place s1 w1) w1 (place s2 w2) w2
+    (λ k l m n e. ⊎-elim (λ x. omega (arith, start-le s2 w2 l)) (λ x. omega (arith, place-lt s2 w2 l n)) (place-cases s1 w1 k))
+
 module _ (ss ws : List ℕ) where
   pub end-more : (n : ℕ) → endTo ss ws (n + 1) ≡ max (endTo ss ws n) (endIn ss ws n)
   unfolding endTo

@@ -1,6 +1,7 @@
 // Where the parameters of a map stand in its payload: ends, shared bits, L, and positions that have no place (01, "Payload bits" and "A set and its
 // judgement"; 02, Req 04). This room knows starts and widths, and no byte and no message. Its slices may have any length and hold anything.
 ghost use mathlib.Core.Path.{_≡_};
+ghost use mathlib.Core.Bool.{true, false};
 ghost use Prim.Native.Nat.{_+_, _*_, _/_, _^_, _<_, max};
 ghost use lib.ListN.{getD};
 ghost use Rattle.places.specs.Place.{odd, skipped, place, endOf, meet, sharesBit, bytesFor, lacksPlace, unplacedIn, endPlaced};
@@ -51,11 +52,22 @@ fn run_shares(from: u64, n: u64, start: u32, width: u32) -> bool
         | runs_share(from, n, left_bit(start, width), width as u64 - whole)
 }
 
-// Whether two parameters share a payload bit. Where the second starts at or after the end of the first, as most do that are asked about, nothing else is looked at.
+// Whether the second of two parameters lies in the low bits that the first skips. The promise says only what follows of that.
+fn lies_skipped(s1: u32, w1: u32, s2: u32, w2: u32) -> bool
+    ensures { λ r. ⌜ (r ≡ true → sharesBit s1 w1 s2 w2 ≡ false) ⌝ }
+{
+    (s1 as u64 + (w1 / 8 * 8) as u64 <= s2 as u64) & (end_bit(s2, w2) <= left_bit(s1, w1))
+}
+
+// Whether two parameters share a payload bit. Where the second starts at or after the end of the first, as most do that are asked about, or stands in the low bits that the first skips, nothing else
+// is looked at.
 pub fn shares(s1: u32, w1: u32, s2: u32, w2: u32) -> bool
     ensures { λ r. ⌜ r ≡ sharesBit s1 w1 s2 w2 ⌝ }
 {
     if end_bit(s1, w1) <= s2 as u64 {
+        return false;
+    }
+    if lies_skipped(s1, w1, s2, w2) {
         return false;
     }
     let whole = (w1 / 8 * 8) as u64;

@@ -10,6 +10,9 @@ use pairs::Command;
 // How many words the caller lends.
 pub const WORDS: usize = pairs::WORDS;
 
+// The words of the filters, as the caller lends them.
+pub type Filters = [u32; WORDS];
+
 // Whether these are two different ports, each 1 to 4.
 fn two_ports(from: u8, to: u8) -> bool
     ensures { λ r. ⌜ r ≡ twoPorts from to ⌝ }
@@ -32,28 +35,28 @@ pub fn pair_of(from: u8, to: u8) -> usize
 }
 
 // Adds a PGN to the list of one pair.
-pub fn add(w: &mut [u32; WORDS], from: u8, to: u8, pgn: u32) -> Answer
+pub fn add(w: &mut Filters, from: u8, to: u8, pgn: u32) -> Answer
     ensures { λ r. ⌜ outcome (inNumbers r) (now (w .exit)) ≡ commanded (now (w .entry)) from to (Command.Add pgn) ⌝ }
 {
     answers::plainly(pairs::obey(w, pair_of(from, to), Command::Add(pgn)))
 }
 
 // Deletes a PGN from the list of one pair.
-pub fn delete(w: &mut [u32; WORDS], from: u8, to: u8, pgn: u32) -> Answer
+pub fn delete(w: &mut Filters, from: u8, to: u8, pgn: u32) -> Answer
     ensures { λ r. ⌜ outcome (inNumbers r) (now (w .exit)) ≡ commanded (now (w .entry)) from to (Command.Delete pgn) ⌝ }
 {
     answers::plainly(pairs::obey(w, pair_of(from, to), Command::Delete(pgn)))
 }
 
 // Sets the mode of one pair and empties its list, in a single command.
-pub fn renew(w: &mut [u32; WORDS], from: u8, to: u8, mode: u8) -> Answer
+pub fn renew(w: &mut Filters, from: u8, to: u8, mode: u8) -> Answer
     ensures { λ r. ⌜ outcome (inNumbers r) (now (w .exit)) ≡ commanded (now (w .entry)) from to (Command.Renew mode) ⌝ }
 {
     answers::plainly(pairs::obey(w, pair_of(from, to), Command::Renew(mode)))
 }
 
 // Decides on a frame from one port to another by its identifier: answer 0 with detail 1 for pass and 0 for block.
-pub fn decide(w: &[u32; WORDS], from: u8, to: u8, id: u32) -> Answer
+pub fn decide(w: &Filters, from: u8, to: u8, id: u32) -> Answer
     ensures { λ r. ⌜ inNumbers r ≡ decided (now (w .entry)) from to id ⌝ }
 {
     let i = pair_of(from, to);
@@ -68,7 +71,7 @@ pub fn decide(w: &[u32; WORDS], from: u8, to: u8, id: u32) -> Answer
 }
 
 // Makes all filters fresh: mode 0 and an empty list for each pair.
-pub fn fresh(w: &mut [u32; WORDS])
+pub fn fresh(w: &mut Filters)
     ensures { λ r. ⌜ now (w .exit) ≡ freshWords ⌝ }
 {
     clear_words(w)

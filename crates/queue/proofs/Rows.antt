@@ -12,7 +12,7 @@ use Rattle.words.specs.Rows.{rowAt, putAt}
 use Rattle.words.proofs.Rows.{part-is-row, back-is-put, length-rowAt, length-putAt, rowAt-putAt, rowAt-putAt-other, putAt-same}
 use Rattle.queue.specs.declared.Left.{Left}
 use Rattle.queue.specs.Queue.{leaver, stayers}
-use Rattle.queue.specs.Row.{priorityIn, countIn, waitingIn, howMany, Entered, entered, rowEnters, entersAt, Gone, gone, leftWith, rowLeaves, leavesAt, waitingAt}
+use Rattle.queue.specs.Row.{priorityIn, waitingIn, howMany, Entered, entered, rowEnters, entersAt, Gone, gone, leftWith, rowLeaves, leavesAt, waitingAt}
 use Rattle.queue.proofs.Words.{count-most, waiting-long, full-stays, enters-long, enters-waits, enters-fits, leaves-long, leaves-waits, leaves-who}
 
 -- ---- row i is lent as a part, and comes back

@@ -1,19 +1,17 @@
 -- One scan over a queue, from the front, that keeps the best place so far and its number: what it knows at each turn. Assumes nothing.
-use mathlib.Core.Path.{_≡_, refl, sym, _∙_}
-use mathlib.Core.Bool.{Bool, true, false, cond}
+use mathlib.Core.Path.{_≡_, refl}
+use mathlib.Core.Bool.{Bool, cond}
 use mathlib.Core.List.{List, [], _∷_}
 use Prim.Native.Nat.{ℕ, suc, _+_, _≤_, _<_, min}
 use native.Mathlib.Nat.{zero-add}
 use native.Mathlib.Omega.{arith}
 use native.Mathlib.Decide.{decLt}
-use borrow.Author.Tests.{le-leb, lt-leb, lt-ltb, le-ltb, leb-true, leb-false}
-use lib.Dec.{leb, ltb, eqb}
-use lib.ListN.{length, getD, drop}
-use lib.Seq.{drop-cons, drop-length}
+use borrow.Author.Tests.{le-leb, lt-leb, lt-ltb, le-ltb}
+use lib.Dec.{leb, ltb}
+use lib.ListN.{length}
 use Rattle.words.specs.Runs.{only}
 use Rattle.words.proofs.Tests.{test}
 use Rattle.queue.specs.Queue.{least, place}
-use Rattle.queue.proofs.Leaving.{least-most}
 
 module _ {A : Type 0} (priority : A → ℕ) where
   -- the place that is found where the scan goes on at place k with the rest of the list

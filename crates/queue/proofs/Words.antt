@@ -1,17 +1,16 @@
 -- The words of one port: the frames that they hold, and what entering and leaving make of these. Assumes nothing.
-use mathlib.Core.Path.{_≡_, refl, sym, ap, ap₂, _∙_}
+use mathlib.Core.Path.{_≡_, sym, ap, ap₂, _∙_}
 use mathlib.Core.Bool.{true, false, cond}
 use mathlib.Core.Option.{none, some}
 use mathlib.Core.List.{List, [], _∷_, _++_}
-use Prim.Native.Nat.{ℕ, zero, suc, _+_, _*_, _-_, _/_, _%_, _^_, _≤_, _<_}
-use native.Mathlib.Nat.{not-suc-le-zero}
+use Prim.Native.Nat.{ℕ, zero, suc, _+_, _-_, _≤_, _<_}
 use native.Mathlib.Numerals.{add-one}
 use native.Mathlib.Omega.{arith}
 use native.Mathlib.Decide.{ℕ-discrete}
 use borrow.Author.Tests.{lt-ltb, le-ltb, ltb-true, ltb-false, eq-eqb, ne-eqb}
 use lib.Dec.{eqb, ltb}
-use lib.ListN.{length, getD, set, take, drop, length-append, length-take, length-drop, length-set, drop-of-length-le}
-use lib.Seq.{take-nil, drop-cons, take-at, take-take, drop-nil, getD-take, getD-drop, getD-set-same, take-suc-set, drop-set-lt, drop-set-add, paste, paste-zero, paste-suc, length-paste, drop-paste, length-take-le}
+use lib.ListN.{length, getD, set, take, drop, length-append, length-drop, length-set, drop-of-length-le}
+use lib.Seq.{take-nil, drop-cons, take-at, take-take, getD-take, getD-drop, getD-set-same, take-suc-set, drop-set-lt, drop-set-add, paste, paste-zero, paste-suc, length-paste, drop-paste, length-take-le}
 use Rattle.words.proofs.Tests.{test, never}
 use Rattle.queue.specs.Queue.{place, leaver, stayers}
 use Rattle.queue.specs.Row.{fromIn, priorityIn, countIn, waitingIn, howMany, entered, rowEnters, closedUp, gone, rowLeaves}

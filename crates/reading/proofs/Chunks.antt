@@ -1,18 +1,11 @@
 -- Bytes that come chunk after chunk are some bytes. Assumes nothing.
 use Prim.Native.Nat.{ℕ}
-use mathlib.Core.Path.{_≡_, ap, _∙_}
-use mathlib.Core.List.{List, [], _++_, flatten}
-use native.Mathlib.Omega.{arith}
+use mathlib.Core.Path.{ap, _∙_}
+use mathlib.Core.List.{List, _++_}
 use Rattle.feeding.specs.declared.Tally.{Tally}
-use Rattle.feeding.specs.Counts.{noCounts}
-use Rattle.feeding.specs.Feed.{Fed, fed, feeding, started, allFed}
-use Rattle.feeding.proofs.Feeding.{fed-twice, fed-all}
+use Rattle.feeding.specs.Feed.{Fed, feeding}
+use Rattle.feeding.proofs.Feeding.{fed-twice}
 use Rattle.reading.specs.Bytes.{SomeBytes}
-
--- before the first of them
-pub no-bytes : (t : List ℕ) → SomeBytes t started t started
-unfolding allFed flatten
-no-bytes t = record { bytes = []; is = fed-all [] t noCounts [] (omega arith) }
 
 -- one chunk more
 pub more-bytes : (t u v : List ℕ) (s p q : Tally) → SomeBytes t s u p → SomeBytes u p v q → SomeBytes t s v q

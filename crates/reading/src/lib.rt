@@ -6,7 +6,7 @@ ghost use Rattle.reading.specs.Bytes.{SomeBytes};
 use feeding::Tally;
 use libc::STDIN_FILENO;
 use libc::types::timespec;
-use lookup::WORDS;
+use lookup::Table;
 
 // A Rattle program has no exit status. Where a script starts it, with a word as its argument, it writes `done` on this descriptor once everything was read and everything
 // written; the script makes an exit status of that (tools/program.sh).
@@ -101,7 +101,7 @@ pub struct Taken {
 }
 
 // Feeds the next 64 KB to a table.
-fn feed_on(t: &mut [u64; WORDS], tally: Tally, what: &[u8]) -> Taken
+fn feed_on(t: &mut Table, tally: Tally, what: &[u8]) -> Taken
     ensures { λ r. ⌜ SomeBytes (now (t .entry)) tally (now (t .exit)) (r .tally) ⌝ }
 {
     let mut buffer = io::large_buffer();
@@ -116,15 +116,10 @@ fn feed_on(t: &mut [u64; WORDS], tally: Tally, what: &[u8]) -> Taken
 }
 
 // Reads a log to its end and feeds it to a table, of which nothing else is kept but the tally. A read that fails for good ends the log there.
-pub fn log(t: &mut [u64; WORDS], what: &[u8]) -> Taken
+pub fn log(t: &mut Table, what: &[u8]) -> Taken
     ensures { λ r. ⌜ SomeBytes (now (t .entry)) started (now (t .exit)) (r .tally) ⌝ }
 {
-    let tally = feeding::start();
-    let mut taken = Taken {
-        tally,
-        more: true,
-        whole: true,
-    };
+    let mut taken = feed_on(t, feeding::start(), what);
     let mut turns = u64::MAX;
     while turns > 0 && taken.more {
         let tally = taken.tally;

@@ -2,6 +2,7 @@
 // input. All that matters is proved in the crates that are called.
 //   no RECORD ANSWER SOURCE DESTINATION PGN    a record, counted from 1, and its answer: 1, 3 to 9 or 10; source and destination by its identifier, the PGN in its first data bytes
 //   end RECORDS OTHER LEFT                     how many records there are, how many of another PGN (answer 2), and the bytes of a cut last one: with this line the facts are whole
+use lookup::Table;
 use lookup::WORDS;
 use record::SIZE;
 
@@ -43,7 +44,7 @@ fn print(number: u64, answer: u8, id: u32, bytes: &[u8; 8]) -> bool {
 }
 
 // One record more: its frame is learned from, and the answer told.
-fn tell(t: &mut [u64; WORDS], before: Told, r: &[u8]) -> Told {
+fn tell(t: &mut Table, before: Told, r: &[u8]) -> Told {
     let f = record::read(r);
     let bytes = f.bytes;
     let a = table::learn(t, f.id, f.len, &bytes);
@@ -61,7 +62,7 @@ fn tell(t: &mut [u64; WORDS], before: Told, r: &[u8]) -> Told {
 }
 
 // The whole records of a chunk, one after another.
-fn tell_all(t: &mut [u64; WORDS], before: Told, s: &[u8]) -> Told {
+fn tell_all(t: &mut Table, before: Told, s: &[u8]) -> Told {
     let mut told = before;
     let mut i = 0;
     while SIZE <= s.len() - i {
@@ -72,7 +73,7 @@ fn tell_all(t: &mut [u64; WORDS], before: Told, s: &[u8]) -> Told {
     told
 }
 
-fn read_on(t: &mut [u64; WORDS], before: Told) -> Log {
+fn read_on(t: &mut Table, before: Told) -> Log {
     let mut buffer = [0u8; ROOM];
     let chunk = reading::fill(
         &mut buffer,

@@ -2,16 +2,16 @@
 -- Assumes nothing.
 use Prim.Native.Nat.{ℕ, zero, suc, _+_, _*_, _-_, _/_, _%_, _≤_, _<_}
 use mathlib.Core.Path.{_≡_, refl, sym, ap, ap₂, subst, _∙_}
-use mathlib.Core.List.{List, _++_, append-assoc}
+use mathlib.Core.List.{List, [], _++_, append-assoc, append-nil}
 use native.Mathlib.Omega.{arith}
 use native.Mathlib.Nat.{not-suc-le-zero, suc-mul, mod-lt, div-add-mod', div-eq-of-lt, add-div-left}
 use native.Mathlib.Numerals.{add-one}
 use native.Mathlib.Decide.{decLt}
 use borrow.Author.Tests.{lt-ltb, le-ltb}
-use lib.ListN.{length, take, drop, replicate, length-append, length-drop, length-replicate, take-append-drop}
+use lib.ListN.{length, take, drop, replicate, length-append, length-take, length-drop, length-replicate, take-append-drop}
 use lib.Seq.{take-at, take-all, drop-append-add, drop-drop, length-take-le}
-use Rattle.splice.proofs.Laws.{covered-same}
-use Rattle.record.specs.Sized.{wholeBy, recordBy, leftBy, overToBy, overBy, heldBy, carriedBy, paddedBy}
+use Rattle.splice.proofs.Laws.{covered-same, covered-full}
+use Rattle.record.specs.Sized.{wholeBy, recordBy, leftBy, overToBy, overBy, heldBy, carriedBy, paddedBy, takenBy}
 
 module _ (z : ℕ) (some : 0 < z) where
   -- ---- a list that starts with a record
@@ -107,6 +107,10 @@ module _ (z : ℕ) (some : 0 < z) where
   pub carried-back : (l : List ℕ) → length l < z → carriedBy z (length l) (paddedBy z l) ≡ l
   carried-back l h = rw (lt-ltb (length l) z h, length-replicate {A = ℕ} z 0, take-all z l (omega arith)) (take-at l (drop (length l) (replicate z 0)) (length l) refl)
 
+  -- with the 0 behind them there are z bytes
+  pub padded-long : (l : List ℕ) → length (paddedBy z l) ≡ z
+  padded-long l = simp (length-append, length-take, length-drop, length-replicate) (omega arith)
+
   -- a whole record needs no 0 behind it
   pub nothing-behind : (l : List ℕ) → length l ≡ z → paddedBy z l ≡ l
   nothing-behind l e = covered-same (replicate z 0) l (length-replicate {A = ℕ} z 0 ∙ sym e)
@@ -128,23 +132,44 @@ module _ (z : ℕ) (some : 0 < z) where
         let long : length (take z (drop i l)) ≡ z = length-take-le z (drop i l) (omega (arith, length-drop i l)) in
         rw (e, k, ← (drop-drop z i l)) (sym (over-more z some (take z (drop i l)) (drop z (drop i l)) long step s) ∙ ap (overBy step z s) (take-append-drop z (drop i l)))
 
-    -- ---- carried bytes x, and a chunk behind them
+    -- a slice of one record
+    pub one-record : (s : S) (r : List ℕ) → length r ≡ z → overBy step z s r ≡ step s r
+    one-record s r e = ap (overBy step z s) (sym (append-nil r)) ∙ over-more z some r [] e step s ∙ over-short z some [] some step (step s r)
 
-    module _ (s : S) (x chunk : List ℕ) where
+    -- ---- the carried bytes x, and a chunk behind them, of which the first k are taken
+
+    module _ (s : S) (left : ℕ) (carry chunk : List ℕ) (long : length carry ≡ z) where
+      abbrev x : List ℕ
+      x = carriedBy z left carry
+
+      abbrev k : ℕ
+      k = takenBy z left (length chunk)
+
+      held : length x ≡ heldBy z left
+      held = length-take-le (heldBy z left) carry (omega (arith, held-few left))
+
       -- too few for a record: all are carried on
-      pub still-short : length x + length chunk < z → (overBy step z s (x ++ chunk) ≡ s) × (leftBy z (x ++ chunk) ≡ x ++ chunk)
+      pub still-short : heldBy z left + k < z → (overBy step z s (x ++ chunk) ≡ s) × (leftBy z (x ++ chunk) ≡ x ++ chunk) × (length (x ++ chunk) ≡ heldBy z left + k)
       still-short h =
-          let l : length (x ++ chunk) < z = rw (length-append x chunk) h in
-          (over-short z some (x ++ chunk) l step s, left-short z some (x ++ chunk) l)
+          let m : k ≡ length chunk = omega arith in
+          let e : length (x ++ chunk) ≡ heldBy z left + k = length-append x chunk ∙ omega (arith, held, m) in
+          let l : length (x ++ chunk) < z = omega (arith, e, h) in
+          (over-short z some (x ++ chunk) l step s, left-short z some (x ++ chunk) l, e)
 
-      -- they and the first of the chunk are a whole record, and the rest of the chunk comes after it
-      pub made-whole : (k : ℕ) → length x + k ≡ z → k ≤ length chunk
-          → (overBy step z s (x ++ chunk) ≡ overBy step z (step s (x ++ take k chunk)) (drop k chunk)) × (leftBy z (x ++ chunk) ≡ leftBy z (drop k chunk))
-      made-whole k e h =
-          let whole : length (x ++ take k chunk) ≡ z = length-append x (take k chunk) ∙ ap (λ (n : ℕ). length x + n) (length-take-le k chunk h) ∙ e in
+      -- they are a whole record, and the rest of the chunk comes after it
+      pub made-whole : z ≤ heldBy z left + k
+          → (overBy step z s (x ++ chunk) ≡ overBy step z (step s (paddedBy z (x ++ chunk))) (drop k chunk)) × (leftBy z (x ++ chunk) ≡ leftBy z (drop k chunk)) × (k ≤ length chunk)
+      made-whole h =
+          let m : k ≤ length chunk = omega arith in
+          let whole : length (x ++ take k chunk) ≡ z = length-append x (take k chunk) ∙ omega (arith, held, length-take-le k chunk m, held-few left) in
           let split : x ++ chunk ≡ (x ++ take k chunk) ++ drop k chunk =
           ap (λ (l : List ℕ). x ++ l) (sym (take-append-drop k chunk)) ∙ sym (append-assoc x (take k chunk) (drop k chunk)) in
-          (ap (overBy step z s) split ∙ over-more z some (x ++ take k chunk) (drop k chunk) whole step s, ap (leftBy z) split ∙ left-more z some (x ++ take k chunk) (drop k chunk) whole)
+          let full : paddedBy z (x ++ chunk) ≡ x ++ take k chunk =
+          ap (paddedBy z) split ∙ sym (covered-full (replicate z 0) (x ++ take k chunk) (drop k chunk) (omega (arith, length-replicate {A = ℕ} z 0, whole))) ∙ nothing-behind (x ++ take k chunk) whole in (
+            ap (overBy step z s) split ∙ over-more z some (x ++ take k chunk) (drop k chunk) whole step s ∙ ap (λ (r : List ℕ). overBy step z (step s r) (drop k chunk)) (sym full),
+            ap (leftBy z) split ∙ left-more z some (x ++ take k chunk) (drop k chunk) whole,
+            m,
+          )
 
 -- a part that runs to the end
 pub to-end : (l : List ℕ) (i : ℕ) → take (length l - i) (drop i l) ≡ drop i l

@@ -1,11 +1,12 @@
 -- A log cut into records of any size z, and what is carried where it comes in chunks that end anywhere. The step that a program makes at a record may be any. A log has records of 13 bytes
 -- (Cut.antt, Chunk.antt), a trace of 14 (02, Req 09). Assumes nothing.
-use Prim.Native.Nat.{ℕ, zero, suc, _*_, _/_}
+use Prim.Native.Nat.{ℕ, zero, suc, _+_, _*_, _-_, _/_, min}
 use mathlib.Core.Bool.{cond}
 use mathlib.Core.List.{List}
 use lib.Dec.{ltb}
 use lib.ListN.{length, take, drop, replicate}
 use Rattle.splice.specs.Splice.{covered}
+use Rattle.record.specs.declared.Begun.{Begun}
 
 -- how many whole records there are
 unfoldable pub wholeBy : ℕ → List ℕ → ℕ
@@ -40,3 +41,11 @@ carriedBy z left carry = take (heldBy z left) carry
 -- z bytes: those of a list, as far as they reach, and 0 in the rest
 abbrev pub paddedBy : ℕ → List ℕ → List ℕ
 paddedBy z l = covered (replicate z 0) l
+
+-- how many bytes of a chunk of n go behind those that are carried: as many as a record of z lacks, or all of them
+abbrev pub takenBy : ℕ → ℕ → ℕ → ℕ
+takenBy z left n = min (z - heldBy z left) n
+
+-- how far a record is begun then
+abbrev pub begunBy : ℕ → ℕ → ℕ → Begun
+begunBy z left n = record { left = heldBy z left + takenBy z left n; taken = takenBy z left n }

@@ -3,8 +3,11 @@
 ghost use mathlib.Core.Path.{_≡_};
 ghost use mathlib.Core.List.{_++_};
 ghost use Prim.Native.Nat.{_≤_};
+ghost use lib.ListN.{length};
 ghost use Rattle.answers.specs.Answers.{outcome, inNumbers};
 ghost use Rattle.record.specs.Record.{fourOf, recordIn, bytesOf, written};
+ghost use Rattle.splice.specs.Splice.{covered};
+ghost use Rattle.record.specs.Sized.{heldBy, carriedBy, begunBy};
 ghost use Rattle.record.specs.Chunk.{leftIn, padded};
 use answers::Answer;
 
@@ -78,11 +81,18 @@ pub fn write(s: &mut [u8], id: u32, len: u8, d: &[u8; 8]) -> Answer
 
 // ---- chunks
 
-// How many bytes are carried: 13 or more, as no cut record leaves, counts as 0.
+// How many bytes are carried: as many as a record has or more, as no cut record leaves, counts as 0.
+fn held(size: usize, left: usize) -> usize
+    ensures { λ r. ⌜ (r ≡ heldBy size left) × (r ≤ size) ⌝ }
+{
+    if left < size { left } else { 0 }
+}
+
+// The same of records of 13 bytes.
 pub fn left_in(left: usize) -> usize
     ensures { λ r. ⌜ (r ≡ leftIn left) × (r ≤ 12) ⌝ }
 {
-    if left < SIZE { left } else { 0 }
+    held(SIZE, left)
 }
 
 // 13 bytes: the carried ones and those behind them, as many as fit, and 0 in the rest.
@@ -92,4 +102,25 @@ pub fn joined(carry: &[u8], more: &[u8]) -> [u8; SIZE]
     let mut b = [0u8; SIZE];
     splice::join_in(&mut b, carry, more);
     b
+}
+
+// How far a record is begun: so many of its bytes are there, and the last `taken` of them are the first of a chunk.
+pub struct Begun {
+    pub left: usize,
+    pub taken: usize,
+}
+
+// Lays the carried bytes, the first `left` of a record that may have any size, and a chunk behind them over the start of `out`, as far as it reaches. The record is whole where as many
+// bytes are there as it has.
+pub fn begin(out: &mut [u8], carry: &[u8], left: usize, chunk: &[u8]) -> Begun
+    ensures { λ _. ⌜ now (out .exit) ≡ covered (now (out .entry)) (carriedBy (length (now (carry .entry))) left (now (carry .entry)) ++ now (chunk .entry)) ⌝ }
+    ensures { λ r. ⌜ r ≡ begunBy (length (now (carry .entry))) left (length (now (chunk .entry))) ⌝ }
+{
+    let n = held(carry.len(), left);
+    splice::join_in(out, &carry[..n], chunk);
+    let taken = splice::shorter(carry.len() - n, chunk.len());
+    Begun {
+        left: n + taken,
+        taken,
+    }
 }

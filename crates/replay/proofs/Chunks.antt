@@ -1,19 +1,12 @@
 -- A trace that comes chunk after chunk is some bytes. Assumes nothing.
 use Prim.Native.Nat.{ℕ}
-use mathlib.Core.Path.{_≡_, ap, _∙_}
-use mathlib.Core.List.{List, [], _++_, flatten}
-use native.Mathlib.Omega.{arith}
+use mathlib.Core.Path.{ap, _∙_}
+use mathlib.Core.List.{List, _++_}
 use Rattle.bridge.specs.Bridge.{Bridge}
 use Rattle.replaying.specs.declared.Tally.{Tally}
-use Rattle.replaying.specs.Counts.{noCounts}
-use Rattle.replaying.specs.Feed.{Fed, fed, feeding, started, allFed}
-use Rattle.replaying.proofs.Chunks.{fed-twice, fed-all}
+use Rattle.replaying.specs.Feed.{Fed, feeding}
+use Rattle.replaying.proofs.Chunks.{fed-twice}
 use Rattle.replay.specs.Bytes.{SomeTrace}
-
--- before the first of them
-pub no-bytes : (b : Bridge) (w : List ℕ) → SomeTrace b w started b w started
-unfolding allFed flatten
-no-bytes b w = record { bytes = []; is = fed-all [] b w noCounts [] (omega arith) }
 
 -- one chunk more
 pub more-bytes : (b : Bridge) (w : List ℕ) (s : Tally) (c : Bridge) (v : List ℕ) (p : Tally) (d : Bridge) (u : List ℕ) (q : Tally) → SomeTrace b w s c v p → SomeTrace c v p d u q → SomeTrace b w s d u q

@@ -4,8 +4,11 @@ ghost use Rattle.bridge.specs.Bridge.{bridge};
 ghost use Rattle.replaying.specs.Feed.{started};
 ghost use Rattle.replay.specs.Bytes.{SomeTrace};
 use bridge::COUNTERS;
+use bridge::CounterWords;
 use bridge::QUEUES;
+use bridge::QueueWords;
 use libc::STDOUT_FILENO;
+use ports::Filters;
 use ports::WORDS;
 use replaying::Tally;
 
@@ -17,12 +20,7 @@ struct Taken {
 }
 
 // Feeds the next 64 KB to the bridge.
-fn feed_on(
-    c: &mut [u64; COUNTERS],
-    q: &mut [u64; QUEUES],
-    w: &mut [u32; WORDS],
-    tally: Tally,
-) -> Taken
+fn feed_on(c: &mut CounterWords, q: &mut QueueWords, w: &mut Filters, tally: Tally) -> Taken
     ensures { λ r. ⌜ SomeTrace (bridge (now (c .entry)) (now (q .entry))) (now (w .entry)) tally (bridge (now (c .exit)) (now (q .exit))) (now (w .exit)) (r .tally) ⌝ }
 {
     let mut buffer = io::large_buffer();
@@ -41,15 +39,10 @@ fn feed_on(
 
 // Reads a trace to its end and feeds it to the bridge. A read that fails for good ends the trace there. A proved loop has to end, so it counts its turns down, from a number that no
 // input uses up.
-fn day(c: &mut [u64; COUNTERS], q: &mut [u64; QUEUES], w: &mut [u32; WORDS]) -> Taken
+fn day(c: &mut CounterWords, q: &mut QueueWords, w: &mut Filters) -> Taken
     ensures { λ r. ⌜ SomeTrace (bridge (now (c .entry)) (now (q .entry))) (now (w .entry)) started (bridge (now (c .exit)) (now (q .exit))) (now (w .exit)) (r .tally) ⌝ }
 {
-    let tally = replaying::start();
-    let mut taken = Taken {
-        tally,
-        more: true,
-        whole: true,
-    };
+    let mut taken = feed_on(c, q, w, replaying::start());
     let mut turns = u64::MAX;
     while turns > 0 && taken.more {
         let tally = taken.tally;
@@ -60,7 +53,7 @@ fn day(c: &mut [u64; COUNTERS], q: &mut [u64; QUEUES], w: &mut [u32; WORDS]) -> 
 }
 
 // Whether the whole text was written.
-fn print(c: &[u64; COUNTERS], q: &[u64; QUEUES], tally: Tally) -> bool {
+fn print(c: &CounterWords, q: &QueueWords, tally: Tally) -> bool {
     let mut page = [0u8; replaying::PAGE];
     let a = replaying::finish(c, q, tally, &mut page);
     let n = io::count(a.detail as isize, &page);

@@ -1,12 +1,12 @@
 -- A tally and a chunk, by the laws of chunks (record, Sized.antt): either the chunk completes no record, or the first record is the carried bytes with the start of the chunk; and a trace may be
 -- cut into chunks anywhere. Assumes nothing.
 use Prim.Native.Nat.{ℕ, _+_, _-_, _%_, _≤_, _<_}
-use mathlib.Core.Path.{_≡_, refl, sym, ap, ap₂, _∙_}
+use mathlib.Core.Path.{_≡_, refl, sym, ap, ap₂, subst, _∙_}
 use mathlib.Core.List.{List, [], _∷_, _++_, append-assoc, append-nil, flatten}
 use native.Mathlib.Omega.{arith}
-use lib.ListN.{length, take, drop, length-append}
-use lib.Seq.{length-take-le}
-use Rattle.record.specs.Sized.{leftBy, overBy, heldBy, carriedBy, paddedBy}
+use lib.ListN.{length, take, drop}
+use Rattle.record.specs.declared.Begun.{Begun}
+use Rattle.record.specs.Sized.{leftBy, overBy, carriedBy, paddedBy, begunBy}
 use Rattle.record.proofs.Sized as sized
 use Rattle.bridge.specs.Bridge.{Bridge}
 use Rattle.replaying.specs.declared.Counts.{Counts}
@@ -17,36 +17,41 @@ pub some : 0 < 14
 some = omega arith
 
 -- what the whole records of a slice leave
-pub leaving : (l : List ℕ) (u v : State) (carry : List ℕ) → u ≡ v → carry ≡ paddedBy 14 (drop (length l - length l % 14) l)
-    → fed (u .words) (u .filters) (record { counts = u .counts; left = length l % 14; carry = carry }) ≡ cutOff v (leftBy 14 l)
-leaving l u v carry p q =
+pub leaving : (l : List ℕ) (k : Counts) (carry : List ℕ) → carry ≡ paddedBy 14 (drop (length l - length l % 14) l)
+    → record { counts = k; left = length l % 14; carry = carry } ≡ tallyOf k (leftBy 14 l)
+leaving l k carry q =
     let (e, n) = sized.leaving 14 some l in
-    rw (p, q, ← e) (ap (λ (k : ℕ). fed (v .words) (v .filters) (record { counts = v .counts; left = k; carry = paddedBy 14 (leftBy 14 l) })) (sym n))
+    rw (q, ← e, n)
 
--- ---- a tally and a chunk
+-- ---- a tally and a chunk, and the record that is begun then (`record::begin`)
 
-module _ (b : Bridge) (w : List ℕ) (s : Tally) (chunk : List ℕ) (n : ℕ) (e : n ≡ heldBy 14 (s .left)) (few : n ≤ 13) (long : length (s .carry) ≡ 14) where
-  held : length (take n (s .carry)) ≡ n
-  held = length-take-le n (s .carry) (omega arith)
+module _ (b : Bridge) (w : List ℕ) (s : Tally) (chunk : List ℕ) (long : length (s .carry) ≡ 14) (g : Begun) (is : g ≡ begunBy (length (s .carry)) (s .left) (length chunk)) where
+  e : g ≡ begunBy 14 (s .left) (length chunk)
+  e = subst (λ (n : ℕ). g ≡ begunBy n (s .left) (length chunk)) long is
 
-  -- they make no whole record
-  pub still-short : length chunk < 14 - n → (carry : List ℕ) → carry ≡ paddedBy 14 (take n (s .carry) ++ chunk)
-      → fed b w (record { counts = s .counts; left = n + length chunk; carry = carry }) ≡ feeding b w s chunk
-  unfolding feeding
-  still-short h carry p =
-      let l : length (take n (s .carry) ++ chunk) ≡ n + length chunk = length-append (take n (s .carry)) chunk ∙ ap (λ (k : ℕ). k + length chunk) held in
-      let (o, r) = sized.still-short 14 some step (state b w (s .counts)) (take n (s .carry)) chunk (omega (arith, held)) in
-      rw (p, ← e, o, r, l)
+  -- no more bytes are taken than the chunk has
+  pub taken-few : g .taken ≤ length chunk
+  taken-few = rw e (omega arith)
 
-  -- the carried bytes and the first of the chunk are a whole record, and the rest of the chunk comes after it
-  pub made-whole : 14 - n ≤ length chunk → (r : List ℕ) (u : State) (v : Fed) → r ≡ paddedBy 14 (take n (s .carry) ++ take (14 - n) chunk) → u ≡ step (state b w (s .counts)) r
-      → v ≡ cutOff (overBy step 14 u (drop (14 - n) chunk)) (leftBy 14 (drop (14 - n) chunk)) → v ≡ feeding b w s chunk
-  unfolding feeding
-  made-whole h r u v p q z =
-      let x = take n (s .carry) in
-      let (o, l) = sized.made-whole 14 some step (state b w (s .counts)) x chunk (14 - n) (omega (arith, held)) h in
-      let whole : length (x ++ take (14 - n) chunk) ≡ 14 = length-append x (take (14 - n) chunk) ∙ omega (arith, held, length-take-le (14 - n) chunk h) in
-      rw (← e, z, q, p, sized.nothing-behind 14 some (x ++ take (14 - n) chunk) whole, o, l)
+  module _ (r : List ℕ) (laid : r ≡ paddedBy 14 (carriedBy (length (s .carry)) (s .left) (s .carry) ++ chunk)) where
+    p : r ≡ paddedBy 14 (carriedBy 14 (s .left) (s .carry) ++ chunk)
+    p = subst (λ (n : ℕ). r ≡ paddedBy 14 (carriedBy n (s .left) (s .carry) ++ chunk)) long laid
+
+    -- no whole record
+    pub fed-short : g .left < 14 → fed b w (record { counts = s .counts; left = g .left; carry = r }) ≡ feeding b w s chunk
+    unfolding feeding
+    fed-short h =
+        let (o, l, n) = sized.still-short 14 some step (state b w (s .counts)) (s .left) (s .carry) chunk long (subst (λ (x : Begun). x .left < 14) e h) in
+        rw (p, e, o, l, n)
+
+    -- a whole one, and the rest of the chunk comes after it
+    pub fed-whole : 14 ≤ g .left → (u v : State) (t : Tally) → u ≡ overBy step 14 (state b w (s .counts)) r → v ≡ overBy step 14 u (take (length chunk - g .taken) (drop (g .taken) chunk))
+        → t ≡ tallyOf (v .counts) (leftBy 14 (take (length chunk - g .taken) (drop (g .taken) chunk))) → fed (v .words) (v .filters) t ≡ feeding b w s chunk
+    unfolding feeding
+    fed-whole h u v t y z x =
+        let (o, l, m) = sized.made-whole 14 some step (state b w (s .counts)) (s .left) (s .carry) chunk long (subst (λ (x : Begun). 14 ≤ x .left) e h) in
+        let n : length r ≡ 14 = rw p (sized.padded-long 14 some (carriedBy 14 (s .left) (s .carry) ++ chunk)) in
+        rw (x, z, sized.to-end chunk (g .taken), y, sized.one-record 14 some step (state b w (s .counts)) r n, p, e, o, l)
 
 -- ---- chunk after chunk
 

@@ -1,6 +1,6 @@
 -- One entry: what the calls make of the words and the counts. Assumes nothing.
 use Prim.Native.Nat.{ℕ}
-use mathlib.Core.Path.{_≡_, ap, sym, _∙_}
+use mathlib.Core.Path.{_≡_, ap}
 use mathlib.Core.List.{List}
 use Rattle.answers.specs.Answers.{Said, Outcome, outcome}
 use Rattle.pairs.specs.declared.Command.the-variants.{Add as AddPgn, Delete as DeletePgn, Renew as RenewMode}

@@ -1,10 +1,10 @@
 -- What the calls of this room are worth together: a trace that is fed in chunks of any size, cut anywhere, and then finished, gives `replayOf` the trace (specs/Replay.antt), which is defined from the trace
 -- alone; and 2,304 bytes always hold it. Assumes nothing.
-use Prim.Native.Nat.{ℕ, _+_, _≤_, _<_}
+use Prim.Native.Nat.{ℕ, _+_, _≤_}
 use native.Mathlib.Omega.{arith}
 use mathlib.Core.Path.{_≡_, refl, sym, ap, _∙_}
 use mathlib.Core.Bool.{true}
-use mathlib.Core.List.{List, [], _∷_, _++_, flatten}
+use mathlib.Core.List.{List, [], _++_, flatten}
 use borrow.Author.Tests.{lt-ltb, le-leb}
 use lib.ListN.{length}
 use Rattle.answers.specs.Answers.{outcome, done}
@@ -12,14 +12,13 @@ use Rattle.splice.specs.Splice.{splice}
 use Rattle.record.specs.Sized.{wholeBy, leftBy, overToBy, overBy}
 use Rattle.record.proofs.Sized as sized
 use Rattle.ports.specs.Filters.{twoPorts, freshWords}
-use Rattle.bridge.specs.Bridge.{Bridge, freshBridge, Stands, standing}
+use Rattle.bridge.specs.Bridge.{Bridge, freshBridge, Stands}
 use Rattle.traffic.proofs.Theorem.{stands-as}
-use Rattle.trace.specs.declared.Entry.{Entry}
 use Rattle.replaying.specs.declared.Tally.{Tally}
 use Rattle.replaying.specs.Counts.{noCounts}
-use Rattle.replaying.specs.Feed.{state, step, started, Fed, fed, feeding, allFed}
-use Rattle.replaying.specs.Lines.{lineOf, twelve, replayWith, pageOf, finished}
-use Rattle.replaying.specs.Replay.{tell, entriesOf, callsOf, known, countsOf, replayOf}
+use Rattle.replaying.specs.Feed.{started, Fed, fed, feeding, allFed}
+use Rattle.replaying.specs.Lines.{twelve, replayWith, pageOf, finished}
+use Rattle.replaying.specs.Replay.{tell, entriesOf, callsOf, known, replayOf}
 use Rattle.replaying.proofs.Chunks.{some, fed-twice, fed-all}
 use Rattle.replaying.proofs.Widths.{enough}
 use Rattle.replaying.proofs.Told.{told}

@@ -1,14 +1,12 @@
 -- The words and counts that a trace leaves are those of its entries: the run of their calls, and how many there were of each kind. Assumes nothing.
-use Prim.Native.Nat.{ℕ, zero, suc, _+_, _%_, _^_}
+use Prim.Native.Nat.{ℕ, zero, suc, _+_}
 use native.Mathlib.Omega.{arith}
-use mathlib.Core.Path.{_≡_, refl, sym, ap, ap₂, _∙_}
-use mathlib.Core.Bool.{Bool, true, false, not, cond}
+use mathlib.Core.Path.{_≡_, refl, ap, ap₂, _∙_}
+use mathlib.Core.Bool.{not, cond}
 use mathlib.Core.List.{List, [], _∷_}
 use lib.Dec.{eqb}
 use lib.ListN.{length}
-use Rattle.words.specs.Runs.{only}
 use Rattle.words.proofs.Tests.{test}
-use Rattle.answers.specs.Answers.{Outcome}
 use Rattle.record.specs.Sized.{recordBy, overToBy}
 use Rattle.pairs.specs.declared.Command.{Command}
 use Rattle.pairs.specs.declared.Command.the-variants.{Add as AddPgn, Delete as DeletePgn, Renew as RenewMode}
@@ -17,7 +15,7 @@ use Rattle.bridge.specs.Bridge.{Bridge, freshBridge, offered}
 use Rattle.counters.specs.Count.{more}
 use Rattle.traffic.specs.Traffic.{wrapped}
 use Rattle.traffic.specs.Runs as runs
-use Rattle.traffic.specs.Runs.{Order, run, filtersBy}
+use Rattle.traffic.specs.Runs.{run, filtersBy}
 use Rattle.traffic.proofs.Theorem.{run-filters}
 use Rattle.trace.specs.declared.Entry.{Entry}
 use Rattle.trace.specs.declared.Entry.the-variants.{Frame, Slot, Add, Delete, Renew, Other}
@@ -25,7 +23,7 @@ use Rattle.trace.specs.Entry.{entryIn}
 use Rattle.replaying.specs.declared.Counts.{Counts}
 use Rattle.replaying.specs.Counts.{noCounts, withFrame, withSlot, withCommand, withOther}
 use Rattle.replaying.specs.Feed.{State, state, slotWords, withOutcome, played, step}
-use Rattle.replaying.specs.Replay.{tell, callsOf, isFrame, isSlot, isCommand, isOther, howOften, refuses, refusedIn, countsOf}
+use Rattle.replaying.specs.Replay.{tell, callsOf, isFrame, isSlot, isCommand, isOther, howOften, refusedIn, countsOf}
 
 -- ---- counts
 

@@ -1,8 +1,7 @@
 -- How long the lines are at most: 2,304 bytes always hold the text of a replay. On any words and any tally. Assumes nothing.
-use Prim.Native.Nat.{ℕ, _+_, _*_, _≤_, _<_}
+use Prim.Native.Nat.{ℕ, _+_, _≤_, _<_}
 use native.Mathlib.Omega.{arith}
-use mathlib.Core.Path.{_≡_}
-use mathlib.Core.List.{List, _++_, flatten}
+use mathlib.Core.List.{_++_, flatten}
 use lib.Dec.{lit<}
 use lib.ListN.{length, length-append}
 use Rattle.text.proofs.Lengths.{byte-digits, any-digits}

@@ -1,12 +1,12 @@
 -- What a trace is replayed as, from the trace alone: no words, no chunk. Assumes nothing.
-use Prim.Native.Nat.{ℕ, _+_, _%_, _^_}
+use Prim.Native.Nat.{ℕ, _+_}
 use mathlib.Core.Bool.{Bool, false, not, cond}
 use mathlib.Core.List.{List, [], _∷_, _++_, flatten}
 use lib.Dec.{eqb}
 use lib.ListN.{length}
 use Rattle.words.specs.Runs.{only}
 use Rattle.answers.specs.Answers.{plain}
-use Rattle.record.specs.Sized.{wholeBy, leftBy, overBy}
+use Rattle.record.specs.Sized.{leftBy, overBy}
 use Rattle.pairs.specs.declared.Command.the-variants.{Add as AddPgn, Delete as DeletePgn, Renew as RenewMode}
 use Rattle.ports.specs.Filters.{freshWords, commanded}
 use Rattle.bridge.specs.Bridge.{Stands, stands}

@@ -6,11 +6,14 @@ ghost use Rattle.text.specs.Text.{page, putAll};
 ghost use Rattle.record.specs.Sized.{leftBy, overBy};
 ghost use Rattle.bridge.specs.Bridge.{bridge, standingAs, standing};
 ghost use Rattle.replaying.specs.Counts.{withFrame, withSlot, withCommand, withOther};
-ghost use Rattle.replaying.specs.Feed.{slotWords, state, played, step, started, fed, cutOff, feeding};
+ghost use Rattle.replaying.specs.Feed.{slotWords, state, played, step, started, tallyOf, fed, feeding};
 ghost use Rattle.replaying.specs.Lines.{sixOf, lineOf, kindsOf, lastLine, pairLine, threeLines, piecesOf, finished};
 use answers::Answer;
+use bridge::CounterWords;
+use bridge::QueueWords;
 use bridge::Standing;
 use counters::Counters;
+use ports::Filters;
 use trace::Entry;
 use trace::SIZE;
 
@@ -18,6 +21,8 @@ use trace::SIZE;
 pub const PAGE: usize = 2304;
 
 // How many records there were; frames, slots and commands among them, and those of the commands that were refused; and records that were none of these. Each modulo 2^64.
+// (`repr(C)`: firmware hands these two to C as they are.)
+#[repr(C)]
 pub struct Counts {
     pub events: u64,
     pub frames: u64,
@@ -28,6 +33,7 @@ pub struct Counts {
 }
 
 // What is kept from chunk to chunk: the counts, and the first `left` bytes of a record that is not whole yet, with 0 behind them.
+#[repr(C)]
 pub struct Tally {
     pub counts: Counts,
     pub left: usize,
@@ -88,7 +94,7 @@ fn with_other(mut k: Counts) -> Counts
 // ---- records
 
 // A slot of a port; who left is not asked.
-fn let_go(c: &mut [u64; bridge::COUNTERS], q: &mut [u64; bridge::QUEUES], port: u8)
+fn let_go(c: &mut CounterWords, q: &mut QueueWords, port: u8)
     ensures { λ _. ⌜ bridge (now (c .exit)) (now (q .exit)) ≡ slotWords (bridge (now (c .entry)) (now (q .entry))) port ⌝ }
 {
     let mut from = 0;
@@ -97,13 +103,7 @@ fn let_go(c: &mut [u64; bridge::COUNTERS], q: &mut [u64; bridge::QUEUES], port: 
 }
 
 // What an entry does to the bridge or the filters, and its count.
-fn play(
-    c: &mut [u64; bridge::COUNTERS],
-    q: &mut [u64; bridge::QUEUES],
-    w: &mut [u32; ports::WORDS],
-    k: Counts,
-    e: Entry,
-) -> Counts
+fn play(c: &mut CounterWords, q: &mut QueueWords, w: &mut Filters, k: Counts, e: Entry) -> Counts
     ensures { λ r. ⌜ state (bridge (now (c .exit)) (now (q .exit))) (now (w .exit)) r
         ≡ played (state (bridge (now (c .entry)) (now (q .entry))) (now (w .entry)) k) e ⌝ }
 {
@@ -132,28 +132,8 @@ fn play(
     }
 }
 
-// One record.
-fn one(
-    c: &mut [u64; bridge::COUNTERS],
-    q: &mut [u64; bridge::QUEUES],
-    w: &mut [u32; ports::WORDS],
-    k: Counts,
-    r: &[u8],
-) -> Counts
-    ensures { λ x. ⌜ state (bridge (now (c .exit)) (now (q .exit))) (now (w .exit)) x
-        ≡ step (state (bridge (now (c .entry)) (now (q .entry))) (now (w .entry)) k) (now (r .entry)) ⌝ }
-{
-    play(c, q, w, k, trace::read(r))
-}
-
 // The whole records of a slice, one after another.
-fn all(
-    c: &mut [u64; bridge::COUNTERS],
-    q: &mut [u64; bridge::QUEUES],
-    w: &mut [u32; ports::WORDS],
-    k: Counts,
-    s: &[u8],
-) -> Counts
+fn all(c: &mut CounterWords, q: &mut QueueWords, w: &mut Filters, k: Counts, s: &[u8]) -> Counts
     ensures { λ x. ⌜ state (bridge (now (c .exit)) (now (q .exit))) (now (w .exit)) x
         ≡ overBy step 14 (state (bridge (now (c .entry)) (now (q .entry))) (now (w .entry)) k) (now (s .entry)) ⌝ }
 {
@@ -161,7 +141,7 @@ fn all(
     let mut i = 0;
     while SIZE <= s.len() - i {
         let e = i + SIZE;
-        counts = one(c, q, w, counts, &s[i..e]);
+        counts = play(c, q, w, counts, trace::read(&s[i..e]));
         i = e;
     }
     counts
@@ -169,18 +149,10 @@ fn all(
 
 // ---- chunks
 
-// A chunk that starts with a record: its whole records, and the bytes that are left.
-fn rest(
-    c: &mut [u64; bridge::COUNTERS],
-    q: &mut [u64; bridge::QUEUES],
-    w: &mut [u32; ports::WORDS],
-    k: Counts,
-    s: &[u8],
-) -> Tally
-    ensures { λ r. ⌜ fed (bridge (now (c .exit)) (now (q .exit))) (now (w .exit)) r
-        ≡ cutOff (overBy step 14 (state (bridge (now (c .entry)) (now (q .entry))) (now (w .entry)) k) (now (s .entry))) (leftBy 14 (now (s .entry))) ⌝ }
+// The counts, and the bytes of a cut last record.
+fn tally_of(counts: Counts, s: &[u8]) -> Tally
+    ensures { λ r. ⌜ r ≡ tallyOf counts (leftBy 14 (now (s .entry))) ⌝ }
 {
-    let counts = all(c, q, w, k, s);
     let left = s.len() % SIZE;
     let from = s.len() - left;
     let carry = trace::joined(b"", &s[from..]);
@@ -195,46 +167,44 @@ fn rest(
 pub fn start() -> Tally
     ensures { λ r. ⌜ r ≡ started ⌝ }
 {
-    Tally {
-        counts: Counts {
-            events: 0,
-            frames: 0,
-            slots: 0,
-            commands: 0,
-            refused: 0,
-            other: 0,
-        },
-        left: 0,
-        carry: [0; SIZE],
-    }
+    let counts = Counts {
+        events: 0,
+        frames: 0,
+        slots: 0,
+        commands: 0,
+        refused: 0,
+        other: 0,
+    };
+    tally_of(counts, b"")
 }
 
 // Takes the next chunk of a trace, of any size and cut anywhere.
 pub fn feed(
-    c: &mut [u64; bridge::COUNTERS],
-    q: &mut [u64; bridge::QUEUES],
-    w: &mut [u32; ports::WORDS],
+    c: &mut CounterWords,
+    q: &mut QueueWords,
+    w: &mut Filters,
     s: Tally,
     chunk: &[u8],
 ) -> Tally
     ensures { λ r. ⌜ fed (bridge (now (c .exit)) (now (q .exit))) (now (w .exit)) r
         ≡ feeding (bridge (now (c .entry)) (now (q .entry))) (now (w .entry)) s (now (chunk .entry)) ⌝ }
 {
-    let carry = s.carry;
+    let old = s.carry;
     let counts = s.counts;
-    let n = trace::left_in(s.left);
-    let lacks = SIZE - n;
-    if chunk.len() < lacks {
-        let carry = trace::joined(&carry[..n], chunk);
+    let mut carry = [0u8; SIZE];
+    let b = record::begin(&mut carry, &old, s.left, chunk);
+    if b.left < SIZE {
         return Tally {
             counts,
-            left: n + chunk.len(),
+            left: b.left,
             carry,
         };
     }
-    let record = trace::joined(&carry[..n], &chunk[..lacks]);
-    let counts = one(c, q, w, counts, &record);
-    rest(c, q, w, counts, &chunk[lacks..])
+    let counts = all(c, q, w, counts, &carry);
+    let taken = b.taken;
+    let behind = &chunk[taken..];
+    let counts = all(c, q, w, counts, behind);
+    tally_of(counts, behind)
 }
 
 // ---- text
@@ -263,14 +233,7 @@ fn put_line(out: &mut [u8], at: usize, from: u8, to: u8, s: Standing) -> usize
 }
 
 // Lays the line of one pair, by what the words hold of it.
-fn put_pair(
-    c: &[u64; bridge::COUNTERS],
-    q: &[u64; bridge::QUEUES],
-    out: &mut [u8],
-    at: usize,
-    from: u8,
-    to: u8,
-) -> usize
+fn put_pair(c: &CounterWords, q: &QueueWords, out: &mut [u8], at: usize, from: u8, to: u8) -> usize
     ensures { λ r. ⌜ page r (now (out .exit)) ≡ putAll (page at (now (out .entry))) (pairLine (bridge (now (c .entry)) (now (q .entry))) from to) ⌝ }
 {
     put_line(out, at, from, to, bridge::pair(c, q, from, to))
@@ -278,8 +241,8 @@ fn put_pair(
 
 // Lays the lines of the three pairs from one port.
 fn put_three(
-    c: &[u64; bridge::COUNTERS],
-    q: &[u64; bridge::QUEUES],
+    c: &CounterWords,
+    q: &QueueWords,
     out: &mut [u8],
     at: usize,
     from: u8,
@@ -316,12 +279,7 @@ fn put_last(out: &mut [u8], at: usize, k: Counts, left: usize) -> usize
 }
 
 // Lays the whole text: a header line, the twelve pairs rising, the counts.
-fn put_replay(
-    c: &[u64; bridge::COUNTERS],
-    q: &[u64; bridge::QUEUES],
-    s: Tally,
-    out: &mut [u8],
-) -> usize
+fn put_replay(c: &CounterWords, q: &QueueWords, s: Tally, out: &mut [u8]) -> usize
     ensures { λ r. ⌜ page r (now (out .exit)) ≡ putAll (page 0 (now (out .entry))) (piecesOf (bridge (now (c .entry)) (now (q .entry))) s) ⌝ }
 {
     let at = text::put_bytes(
@@ -339,12 +297,7 @@ fn put_replay(
 }
 
 // Lays the text over the start of `out`: 0 with its length, or 13 and nothing written where `out` is too short. 2,304 bytes are never too short.
-pub fn finish(
-    c: &[u64; bridge::COUNTERS],
-    q: &[u64; bridge::QUEUES],
-    s: Tally,
-    out: &mut [u8],
-) -> Answer
+pub fn finish(c: &CounterWords, q: &QueueWords, s: Tally, out: &mut [u8]) -> Answer
     ensures { λ r. ⌜ outcome (inNumbers r) (now (out .exit)) ≡ finished (bridge (now (c .entry)) (now (q .entry))) s (now (out .entry)) ⌝ }
 {
     let mut page = [0u8; PAGE];

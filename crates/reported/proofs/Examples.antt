@@ -16,7 +16,6 @@ use Rattle.maps.specs.Maps.{sameKey, sameHead, samePlace, contradicts, conflict
 use Rattle.judge.specs.Judge.{notAbove, firstNamed, judgeOver}
 use Rattle.history.specs.History.{noRoom}
 use Rattle.record.specs.Record.{recordIn}
-use Rattle.record.specs.Cut.{wholeIn, recordAt, overTo, over}
 use Rattle.record.specs.Sized.{wholeBy, recordBy, overToBy, overBy}
 use Rattle.keyrow.specs.Row.{keyOf}
 use Rattle.ask.specs.Ask.{readBy}
@@ -24,7 +23,7 @@ use Rattle.listing.specs.Listing.{sorted}
 use Rattle.tally.specs.Summary.{summary}
 use Rattle.hire.specs.Payloads.{isPayload, payloadKey, isRead, readingOf}
 use Rattle.reported.specs.Readings.{framesOf, taughtBy, readAs, readings, column}
-use Rattle.reported.specs.Report.{Line, Counted, TooMany, onceUsable, linesTo, reportOf}
+use Rattle.reported.specs.Report.{Counted, TooMany, onceUsable, linesTo, reportOf}
 
 -- a payload of the key 38, 39, 1
 abbrev paid : ℕ → ℕ → List ℕ

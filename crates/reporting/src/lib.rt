@@ -3,8 +3,9 @@ use feeding::Tally;
 use libc::STDOUT_FILENO;
 use lookup::Next;
 use lookup::ROWS;
-use lookup::WORDS;
+use lookup::Table;
 use message::Key;
+use tally::Cells;
 
 // Room for the header or the last line.
 const LINE: usize = 128;
@@ -21,14 +22,14 @@ fn write_header() -> bool {
     write(&page, n)
 }
 
-fn write_key(t: &[u64; WORDS], acc: &[u64; tally::WORDS], limit: u32, key: Key) -> bool {
+fn write_key(t: &Table, acc: &Cells, limit: u32, key: Key) -> bool {
     let mut page = [0u8; report::PAGE];
     let n = report::put_key(t, acc, limit, key, &mut page, 0);
     write(&page, n)
 }
 
 // The held keys; 16 rows hold no more than 16.
-fn write_keys(t: &[u64; WORDS], acc: &[u64; tally::WORDS], limit: u32) -> bool {
+fn write_keys(t: &Table, acc: &Cells, limit: u32) -> bool {
     let mut all = true;
     let mut next = lookup::first_key(t);
     let mut i = 0;
@@ -53,7 +54,7 @@ fn write_last(tally: Tally) -> bool {
 }
 
 // Whether the whole report was written.
-pub fn write_all(t: &[u64; WORDS], acc: &[u64; tally::WORDS], limit: u32, tally: Tally) -> bool {
+pub fn write_all(t: &Table, acc: &Cells, limit: u32, tally: Tally) -> bool {
     let first = write_header();
     let keys = write_keys(t, acc, limit);
     let last = write_last(tally);

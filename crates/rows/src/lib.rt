@@ -10,7 +10,7 @@ pub const COUNT: usize = 140;
 pub const COUNT_2004: usize = 12;
 
 // Rows of SPN and width.
-const ROWS: [[u32; 2]; 140] = [
+const ROWS: [[u16; 2]; 140] = [
     [1488, 16],
     [1489, 8],
     [1490, 16],
@@ -155,14 +155,14 @@ const ROWS: [[u32; 2]; 140] = [
 
 // All rows. The compiler lays a const out anew wherever code names it, so it is named here alone, and a call that looks several SPNs up asks for the
 // rows once and lends them on.
-pub fn all() -> [[u32; 2]; COUNT]
+pub fn all() -> [[u16; 2]; COUNT]
     ensures { λ r. ⌜ r ≡ pairs ⌝ }
 {
     ROWS
 }
 
 // Rows of SPN and width of the edition of 2004.
-const ROWS_2004: [[u32; 2]; 12] = [
+const ROWS_2004: [[u16; 2]; 12] = [
     [3146, 24],
     [3147, 19],
     [3148, 5],
@@ -178,7 +178,7 @@ const ROWS_2004: [[u32; 2]; 12] = [
 ];
 
 // All rows of the edition of 2004.
-pub fn all_2004() -> [[u32; 2]; COUNT_2004]
+pub fn all_2004() -> [[u16; 2]; COUNT_2004]
     ensures { λ r. ⌜ r ≡ pairs2004 ⌝ }
 {
     ROWS_2004

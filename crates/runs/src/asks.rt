@@ -13,7 +13,7 @@ use lines::numbers;
 use lines::room;
 use lines::two;
 use lines::words;
-use lookup::WORDS;
+use lookup::Table;
 
 fn judged(a: Answer, n: u8) {
     number(a);
@@ -37,14 +37,14 @@ fn parameter(p: Parameter) {
     end();
 }
 
-fn pack(t: &[u64; WORDS], b: &[u8; 14], given: &[u32], out: &mut [u8]) {
+fn pack(t: &Table, b: &[u8; 14], given: &[u32], out: &mut [u8]) {
     io::read_full(STDIN_FILENO, out);
     number(ask::pack(t, b[1], b[2], b[3], given, out));
     bytes(out);
     end();
 }
 
-fn read(t: &[u64; WORDS], b: &[u8; 14], given: &mut [u32], payload: &mut [u8], states: &mut [u8]) {
+fn read(t: &Table, b: &[u8; 14], given: &mut [u32], payload: &mut [u8], states: &mut [u8]) {
     io::read_full(STDIN_FILENO, payload);
     io::read_full(STDIN_FILENO, states);
     number(ask::read(t, b[1], b[2], b[3], payload, given, states));
@@ -54,7 +54,7 @@ fn read(t: &[u64; WORDS], b: &[u8; 14], given: &mut [u32], payload: &mut [u8], s
 }
 
 // A call with lists: how many numbers, how many payload bytes, and for read how many states; then those.
-fn with_lists(t: &[u64; WORDS], b: &[u8; 14]) {
+fn with_lists(t: &Table, b: &[u8; 14]) {
     let mut given = room();
     let mut payload = io::buffer();
     let g = words(b[4], &mut given);
@@ -68,7 +68,7 @@ fn with_lists(t: &[u64; WORDS], b: &[u8; 14]) {
     }
 }
 
-pub(crate) fn run(t: &[u64; WORDS], b: &[u8; 14]) {
+pub(crate) fn run(t: &Table, b: &[u8; 14]) {
     match b[0] {
         10 => judged(
             ask::judge(t, b[1], b[2], b[3]),

@@ -7,9 +7,10 @@ use lines::first;
 use lines::four;
 use lines::more;
 use lines::two;
+use ports::Filters;
 use ports::WORDS;
 
-fn call(w: &mut [u32; WORDS], what: u8, from: u8, to: u8, x: u32) -> Answer {
+fn call(w: &mut Filters, what: u8, from: u8, to: u8, x: u32) -> Answer {
     match what {
         0 => ports::add(w, from, to, x),
         1 => ports::delete(w, from, to, x),
@@ -32,7 +33,7 @@ fn is_refused(from: u8, to: u8, a: Answer) -> bool {
 }
 
 // The call from one port to all port numbers; one more for each answer 15.
-fn from_port(w: &mut [u32; WORDS], what: u8, from: u8, x: u32, before: u32) -> u32 {
+fn from_port(w: &mut Filters, what: u8, from: u8, x: u32, before: u32) -> u32 {
     let mut refused = before;
     let mut to = 0u32;
     while to < 256 {
@@ -45,7 +46,7 @@ fn from_port(w: &mut [u32; WORDS], what: u8, from: u8, x: u32, before: u32) -> u
     refused
 }
 
-fn sweep(w: &mut [u32; WORDS], what: u8, x: u32) {
+fn sweep(w: &mut Filters, what: u8, x: u32) {
     let mut refused = 0u32;
     let mut from = 0u32;
     while from < 256 {
@@ -57,13 +58,13 @@ fn sweep(w: &mut [u32; WORDS], what: u8, x: u32) {
     end();
 }
 
-fn put(w: &mut [u32; WORDS], at: usize, x: u32) {
+fn put(w: &mut Filters, at: usize, x: u32) {
     if at < WORDS {
         w[at] = x;
     }
 }
 
-pub(crate) fn run(w: &mut [u32; WORDS], b: &[u8; 14]) {
+pub(crate) fn run(w: &mut Filters, b: &[u8; 14]) {
     let x = four(b[4], b[5], b[6], b[7]);
     match b[0] {
         1 => answer(call(w, b[1], b[2], b[3], x)),

@@ -7,6 +7,7 @@ use lines::long;
 use lines::more;
 use lines::two;
 use lookup::Next;
+use lookup::Table;
 use lookup::WORDS;
 
 // A key, where there is one, and whether there is.
@@ -22,7 +23,7 @@ fn is_key(n: Next) -> bool {
     }
 }
 
-fn after(t: &[u64; WORDS], n: Next) -> Next {
+fn after(t: &Table, n: Next) -> Next {
     match n {
         Next::Found(k) => lookup::next_key(t, k.source, k.destination, k.k),
         Next::NoMore => Next::NoMore,
@@ -30,7 +31,7 @@ fn after(t: &[u64; WORDS], n: Next) -> Next {
 }
 
 // The held keys; 16 at most, so a walk that goes on past 20 is broken off.
-fn walk(t: &[u64; WORDS]) {
+fn walk(t: &Table) {
     io::write_all(STDOUT_FILENO, b"keys");
     let mut at = lookup::first_key(t);
     let mut turns = 0u32;
@@ -41,19 +42,19 @@ fn walk(t: &[u64; WORDS]) {
     end();
 }
 
-fn next(t: &[u64; WORDS], source: u8, destination: u8, k: u8) {
+fn next(t: &Table, source: u8, destination: u8, k: u8) {
     io::write_all(STDOUT_FILENO, b"next");
     is_key(lookup::next_key(t, source, destination, k));
     end();
 }
 
-fn put(t: &mut [u64; WORDS], at: usize, low: u32, high: u32) {
+fn put(t: &mut Table, at: usize, low: u32, high: u32) {
     if at < WORDS {
         t[at] = low as u64 + high as u64 * 4294967296;
     }
 }
 
-fn dump(t: &[u64; WORDS]) {
+fn dump(t: &Table) {
     io::write_all(STDOUT_FILENO, b"words");
     let mut i = 0;
     while i < WORDS {
@@ -66,7 +67,7 @@ fn dump(t: &[u64; WORDS]) {
     end();
 }
 
-pub(crate) fn run(t: &mut [u64; WORDS], b: &[u8; 14]) {
+pub(crate) fn run(t: &mut Table, b: &[u8; 14]) {
     match b[0] {
         4 => answer(table::learn(
             t,

@@ -26,9 +26,10 @@ mod keys;
 mod logs;
 mod said;
 
-use libc::STDIN_FILENO;
+use lookup::Table;
+use ports::Filters;
 
-fn run(w: &mut [u32; ports::WORDS], t: &mut [u64; lookup::WORDS], b: &[u8; 14]) {
+fn run(w: &mut Filters, t: &mut Table, b: &[u8; 14]) {
     match b[0] {
         0 => {
             ports::fresh(w);
@@ -42,23 +43,14 @@ fn run(w: &mut [u32; ports::WORDS], t: &mut [u64; lookup::WORDS], b: &[u8; 14]) 
     }
 }
 
-// Reads one case and runs it; false where the input ends.
-fn case(w: &mut [u32; ports::WORDS], t: &mut [u64; lookup::WORDS]) -> bool {
-    let mut b = [0u8; 14];
-    let n = io::read_full(STDIN_FILENO, &mut b);
-    if n < 14 {
-        return false;
-    }
-    run(w, t, &b);
-    true
-}
-
 // What the calls are lent stands here. A proved loop has to end, so it counts its turns down, from a number that no run uses up.
 fn main() {
     let mut w = [0u32; ports::WORDS];
     let mut t = [0u64; lookup::WORDS];
+    let mut b = [0u8; 14];
     let mut turns = u64::MAX;
-    while turns > 0 && case(&mut w, &mut t) {
+    while turns > 0 && lines::case(&mut b) {
+        run(&mut w, &mut t, &b);
         turns -= 1;
     }
 }

@@ -19,7 +19,7 @@ use keyrow::FORM;
 use keyrow::POSITIONS;
 use lookup::Next;
 use lookup::ROWS;
-use lookup::WORDS;
+use lookup::Table;
 use message::Key;
 use message::Place;
 
@@ -99,7 +99,7 @@ fn put_row_body(row: &[u64], out: &mut [u8], at: usize) -> usize
 }
 
 // Lays the body of a key where it is saved.
-fn put_body(t: &[u64; WORDS], saved: bool, key: Key, out: &mut [u8], at: usize) -> usize
+fn put_body(t: &Table, saved: bool, key: Key, out: &mut [u8], at: usize) -> usize
     requires { ⌜ saved ≡ isSaved (now t) key ⌝ }
     ensures { λ r. ⌜ page r (now (out .exit)) ≡ putAll (page at (now (out .entry))) (cond saved (mapPieces (mapIn (now (t .entry)) key)) []) ⌝ }
 {
@@ -114,7 +114,7 @@ fn put_body(t: &[u64; WORDS], saved: bool, key: Key, out: &mut [u8], at: usize) 
 }
 
 // How long the body of a key is; 0 where it is not saved.
-fn body_len(t: &[u64; WORDS], saved: bool, key: Key) -> usize
+fn body_len(t: &Table, saved: bool, key: Key) -> usize
     ensures { λ r. ⌜ (r ≡ cond saved (length (bodyOf (mapIn (now (t .entry)) key))) 0) × (r ≤ 1275) ⌝ }
 {
     if saved {
@@ -154,7 +154,7 @@ fn row_bytes(key: Key, edition: u32, at: usize, len: usize) -> [u8; 8]
 
 // Lays the row of a key that is saved.
 fn put_row(
-    t: &[u64; WORDS],
+    t: &Table,
     form: u8,
     saved: bool,
     key: Key,
@@ -177,7 +177,7 @@ fn put_row(
 // ---- which keys
 
 // Whether a key is saved: its map is usable by its edition.
-fn is_saved(t: &[u64; WORDS], key: Key) -> bool
+fn is_saved(t: &Table, key: Key) -> bool
     ensures { λ r. ⌜ r ≡ isSaved (now (t .entry)) key ⌝ }
 {
     let judged = ask::judge(t, key.source, key.destination, key.k);
@@ -199,7 +199,7 @@ struct Chosen {
     bodies: usize,
 }
 
-fn choose(t: &[u64; WORDS]) -> Chosen
+fn choose(t: &Table) -> Chosen
     ensures { λ r. ⌜ (r .marks ≡ marksOf (now (t .entry))) × (r .count ≡ length (savedKeys (now (t .entry))))
         × (r .bodies ≡ length (bodiesOf (mapIn (now (t .entry))) (savedKeys (now (t .entry))))) × (r .bodies ≤ 20400) ⌝ }
 {
@@ -239,7 +239,7 @@ fn choose(t: &[u64; WORDS]) -> Chosen
 
 // Lays the rows; the first body begins at `from`.
 fn put_rows(
-    t: &[u64; WORDS],
+    t: &Table,
     form: u8,
     marks: &[u8; ROWS],
     out: &mut [u8],
@@ -271,7 +271,7 @@ fn put_rows(
 }
 
 // Lays the bodies.
-fn put_bodies(t: &[u64; WORDS], marks: &[u8; ROWS], out: &mut [u8], at: usize) -> usize
+fn put_bodies(t: &Table, marks: &[u8; ROWS], out: &mut [u8], at: usize) -> usize
     requires { ⌜ now marks ≡ marksOf (now t) ⌝ }
     ensures { λ r. ⌜ page r (now (out .exit)) ≡ putAll (page at (now (out .entry))) (bodiesPieces (mapIn (now (t .entry))) (savedKeys (now (t .entry)))) ⌝ }
 {
@@ -292,7 +292,7 @@ fn put_bodies(t: &[u64; WORDS], marks: &[u8; ROWS], out: &mut [u8], at: usize) -
 }
 
 // Lays the whole image.
-fn put_image(t: &[u64; WORDS], form: u8, marks: &[u8; ROWS], count: u8, out: &mut [u8]) -> usize
+fn put_image(t: &Table, form: u8, marks: &[u8; ROWS], count: u8, out: &mut [u8]) -> usize
     requires { ⌜ (now marks ≡ marksOf (now t)) × (count ≡ length (savedKeys (now t))) ⌝ }
     ensures { λ r. ⌜ page r (now (out .exit))
         ≡ putAll (page 0 (now (out .entry))) (imagePieces form (editionIn (now (t .entry))) (mapIn (now (t .entry))) (savedKeys (now (t .entry)))) ⌝ }
@@ -306,7 +306,7 @@ fn put_image(t: &[u64; WORDS], form: u8, marks: &[u8; ROWS], count: u8, out: &mu
 // ---- the calls
 
 // How many bytes the image of a table has.
-pub fn size(t: &[u64; WORDS]) -> usize
+pub fn size(t: &Table) -> usize
     ensures { λ r. ⌜ r ≡ length (imageOf (now (t .entry))) ⌝ }
 {
     let chosen = choose(t);
@@ -315,7 +315,7 @@ pub fn size(t: &[u64; WORDS]) -> usize
 
 // Lays the image of a table in a form over the start of `out` where it has room, and says how many bytes it has; else nothing is laid. Another form than that which is
 // written is laid to be compared alone.
-pub fn lay(t: &[u64; WORDS], form: u8, out: &mut [u8]) -> usize
+pub fn lay(t: &Table, form: u8, out: &mut [u8]) -> usize
     ensures { λ r. ⌜ (r ≡ length (imageIn form (now (t .entry)))) × (now (out .exit) ≡ laid (now (out .entry)) 0 (imageIn form (now (t .entry)))) ⌝ }
 {
     let chosen = choose(t);
@@ -328,7 +328,7 @@ pub fn lay(t: &[u64; WORDS], form: u8, out: &mut [u8]) -> usize
 }
 
 // Saves a table: 13, and nothing is written, where the buffer is too short for its image; else 0, and the bytes past the image keep what they held.
-pub fn save(t: &[u64; WORDS], out: &mut [u8]) -> Answer
+pub fn save(t: &Table, out: &mut [u8]) -> Answer
     ensures { λ r. ⌜ outcome (inNumbers r) (now (out .exit)) ≡ savedInto (now (t .entry)) (now (out .entry)) ⌝ }
 {
     let room = out.len();

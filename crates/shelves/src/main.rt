@@ -8,11 +8,12 @@ use keyrow::POSITIONS;
 use libc::STDERR_FILENO;
 use lookup::Next;
 use lookup::ROWS;
+use lookup::Table;
 use lookup::WORDS;
 use message::Key;
 
 // Whether a map of n parameters uses transport. A key in conflict has n = 0, and no flag: it would go by the order of its messages.
-fn transport_of(t: &[u64; WORDS], key: Key, n: u8) -> u64 {
+fn transport_of(t: &Table, key: Key, n: u8) -> u64 {
     let mut spns = [0u32; POSITIONS];
     let mut starts = [0u32; POSITIONS];
     let mut widths = [0u32; POSITIONS];
@@ -32,7 +33,7 @@ fn transport_of(t: &[u64; WORDS], key: Key, n: u8) -> u64 {
 }
 
 // The line of a position, where something stands there. Whether it was written.
-fn print_position(t: &[u64; WORDS], key: Key, position: u8) -> bool {
+fn print_position(t: &Table, key: Key, position: u8) -> bool {
     let p = ask::parameter_at(t, key.source, key.destination, key.k, position);
     let a = p.answer;
     if a.number != 0 { // 18: nothing stands there
@@ -49,7 +50,7 @@ fn print_position(t: &[u64; WORDS], key: Key, position: u8) -> bool {
     )
 }
 
-fn print_positions(t: &[u64; WORDS], key: Key, n: u8) -> bool {
+fn print_positions(t: &Table, key: Key, n: u8) -> bool {
     let mut all = true;
     let mut position = 0;
     while position < n {
@@ -59,7 +60,7 @@ fn print_positions(t: &[u64; WORDS], key: Key, n: u8) -> bool {
     all
 }
 
-fn print_key(t: &[u64; WORDS], key: Key) -> bool {
+fn print_key(t: &Table, key: Key) -> bool {
     let a = ask::judge(t, key.source, key.destination, key.k);
     let j = a.judgement;
     let n = ask::count(t, key.source, key.destination, key.k);
@@ -80,7 +81,7 @@ fn print_key(t: &[u64; WORDS], key: Key) -> bool {
 }
 
 // The held keys; 16 rows hold no more than 16.
-fn print_keys(t: &[u64; WORDS]) -> bool {
+fn print_keys(t: &Table) -> bool {
     let mut all = true;
     let mut next = lookup::first_key(t);
     let mut i = 0;
@@ -98,7 +99,7 @@ fn print_keys(t: &[u64; WORDS]) -> bool {
 }
 
 // Whether every line was written.
-fn print(t: &[u64; WORDS], tally: Tally) -> bool {
+fn print(t: &Table, tally: Tally) -> bool {
     let keys = print_keys(t);
     let counts = tally.counts;
     let left = record::left_in(tally.left);
@@ -113,7 +114,7 @@ fn print(t: &[u64; WORDS], tally: Tally) -> bool {
     false
 }
 
-fn of_log(t: &mut [u64; WORDS]) {
+fn of_log(t: &mut Table) {
     let log = reading::log(
         t,
         b"shelf: reading stopped, and only what came before is shown",
@@ -123,7 +124,7 @@ fn of_log(t: &mut [u64; WORDS]) {
 }
 
 // Whether the image was undamaged and every line written.
-fn show(t: &mut [u64; WORDS], image: &[u8]) -> bool {
+fn show(t: &mut Table, image: &[u8]) -> bool {
     let a = load::load(t, image);
     if a.number == 0 {
         return print(t, feeding::start());
@@ -136,7 +137,7 @@ fn show(t: &mut [u64; WORDS], image: &[u8]) -> bool {
 }
 
 // No image has as many bytes as the buffer, so what comes behind them need not be read: it is damaged.
-fn of_image(t: &mut [u64; WORDS]) {
+fn of_image(t: &mut Table) {
     let mut buffer = io::buffer();
     let image = reading::fill(&mut buffer, b"shelf: reading stopped, and nothing is shown");
     let n = image.n;

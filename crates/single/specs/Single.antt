@@ -1,7 +1,7 @@
 -- A parameter's number in a payload of eight bytes that is held as one number (01, "Payload bits"): payload bit p is then bit p of that number (law same-bits).
 -- Assumes nothing.
 use mathlib.Core.Bool.{Bool, cond, _&&_}
-use Prim.Native.Nat.{ℕ, _+_, _/_, _%_, _^_}
+use Prim.Native.Nat.{ℕ, _/_, _%_, _^_}
 use lib.Dec.{leb}
 use Rattle.places.specs.Place.{place, endOf}
 use Rattle.bits.specs.Bits.{bit, fromBits, bitAfter, liesIn}

@@ -5,7 +5,7 @@ ghost use Prim.Native.Nat.{_+_, min};
 ghost use Rattle.splice.specs.Splice.{covered, fits, laid};
 
 // How far two lengths both reach.
-fn shorter(a: usize, b: usize) -> usize
+pub fn shorter(a: usize, b: usize) -> usize
     ensures { λ r. ⌜ r ≡ min a b ⌝ }
 {
     if a < b { a } else { b }

@@ -1,13 +1,13 @@
 -- Laws of states: 02's ranges said by membership and proved one with the definition, so that each number has exactly one state; and what is laid where there is room for
 -- all. Assumes nothing.
-use Prim.Native.Nat.{ℕ, _/_, _^_, _≤_, _<_, min}
-use mathlib.Core.Path.{_≡_, refl, sym, ap, _∙_}
+use Prim.Native.Nat.{ℕ, _/_, _^_, _≤_, _<_}
+use mathlib.Core.Path.{_≡_, ap}
 use mathlib.Core.Bool.{true}
 use mathlib.Core.List.{List, _++_}
 use native.Mathlib.Omega.{arith}
 use lib.Dec.{eqb, leb}
 use lib.ListN.{length, getD, drop, length-append, List·getD-append}
-use borrow.Author.Tests.{leb-true, leb-false, eqb-true, eqb-false, eq-eqb, ne-eqb, le-leb, lt-leb}
+use borrow.Author.Tests.{leb-true, leb-false, eqb-true, eqb-false, ne-eqb, le-leb, lt-leb}
 use Rattle.words.proofs.Lists.{tabulate-equal}
 use Rattle.words.proofs.Tests.{test}
 use Rattle.states.specs.States.{byByte, byTwoBits, kindOf, stateBy, stateOf, statesOf, reach, statesOver}

@@ -22,7 +22,7 @@ pub use keyrow::STATE;
 pub use keyrow::key_number;
 pub use lookup::Next;
 pub use lookup::ROWS;
-pub use lookup::WORDS;
+use lookup::Table;
 pub use lookup::first_key;
 pub use lookup::next_key;
 pub use lookup::row_of;
@@ -53,7 +53,7 @@ fn new_at(t: &mut [u64], i: usize, key: u64, form: u64, p: u8, cell: u64)
 }
 
 // One well-formed message: into its key's row, or into the lowest free one, or 9. One row is touched.
-fn learn_message(t: &mut [u64; WORDS], m: Message) -> u8
+fn learn_message(t: &mut Table, m: Message) -> u8
     requires { ⌜ Storable m ⌝ }
     ensures { λ r. ⌜ outcome (plain r) (now (t .exit)) ≡ learnMessage (now (t .entry)) m ⌝ }
 {
@@ -75,7 +75,7 @@ fn learn_message(t: &mut [u64; WORDS], m: Message) -> u8
 }
 
 // Learns from one frame. A frame of another PGN is refused before the table or a data byte is looked at.
-pub fn learn(t: &mut [u64; WORDS], id: u32, len: u8, d: &[u8; 8]) -> Answer
+pub fn learn(t: &mut Table, id: u32, len: u8, d: &[u8; 8]) -> Answer
     ensures { λ r. ⌜ outcome (inNumbers r) (now (t .exit)) ≡ learnt (now (t .entry)) id len (now (d .entry)) ⌝ }
 {
     match message::decode(id, len, d) {
@@ -87,7 +87,7 @@ pub fn learn(t: &mut [u64; WORDS], id: u32, len: u8, d: &[u8; 8]) -> Answer
 // ---- forgetting
 
 // Makes an empty table of any words.
-pub fn empty(t: &mut [u64; WORDS])
+pub fn empty(t: &mut Table)
     ensures { λ r. ⌜ now (t .exit) ≡ emptyTable ⌝ }
 {
     words::clear(t);
@@ -106,7 +106,7 @@ fn free_rows(t: &mut [u64], key: u64)
     }
 }
 
-fn forget_in(t: &mut [u64; WORDS], key: u64) -> u8
+fn forget_in(t: &mut Table, key: u64) -> u8
     ensures { λ r. ⌜ outcome (plain r) (now (t .exit)) ≡ forgotten (now (t .entry)) key ⌝ }
 {
     if lookup::slot_in(t, key) < ROWS {
@@ -117,7 +117,7 @@ fn forget_in(t: &mut [u64; WORDS], key: u64) -> u8
 }
 
 // Forgets one key, and no other.
-pub fn forget(t: &mut [u64; WORDS], source: u8, destination: u8, k: u8) -> Answer
+pub fn forget(t: &mut Table, source: u8, destination: u8, k: u8) -> Answer
     ensures { λ r. ⌜ outcome (inNumbers r) (now (t .exit)) ≡ forgotten (now (t .entry)) (keyNumber (keyOf source destination k)) ⌝ }
 {
     answers::plainly(forget_in(t, key_number(source, destination, k)))

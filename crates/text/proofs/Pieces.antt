@@ -23,6 +23,10 @@ put-more (x ∷ xs) ys p = put-more xs ys (put (p .bytes) (p .at) x)
 pub follow : (p q r : Page) (xs ys : List (List ℕ)) → q ≡ putAll p xs → r ≡ putAll q ys → r ≡ putAll p (xs ++ ys)
 follow p q r xs ys e f = f ∙ ap (λ (x : Page). putAll x ys) e ∙ sym (put-more xs ys p)
 
+-- four times some pieces
+pub four-follow : (p q r s t : Page) (ws xs ys zs : List (List ℕ)) → q ≡ putAll p ws → r ≡ putAll q xs → s ≡ putAll r ys → t ≡ putAll s zs → t ≡ putAll p (ws ++ (xs ++ (ys ++ zs)))
+four-follow p q r s t ws xs ys zs e f g h = follow p q t ws (xs ++ (ys ++ zs)) e (follow q r t xs (ys ++ zs) f (follow r s t ys zs g h))
+
 -- one piece
 pub one-piece : (l : List ℕ) (at : ℕ) (x : List ℕ) (r : Page) → r ≡ put l at x → r ≡ putAll (page at l) (x ∷ [])
 unfolding putAll

@@ -5,10 +5,9 @@ use mathlib.Core.Path.{_≡_}
 use mathlib.Core.Bool.{true, false, _&&_, and-eq-true-iff}
 use mathlib.Core.List.{List}
 use borrow.Author.Tests.{leb-true, lt-ltb, le-ltb, eq-eqb, ne-eqb}
-use lib.Dec.{eqb, leb}
+use lib.Dec.{leb}
 use lib.ListN.{length, getD, take, drop}
 use Rattle.record.specs.Record.{recordIn}
-use Rattle.trace.specs.declared.Entry.{Entry}
 use Rattle.trace.specs.declared.Entry.the-variants.{Frame, Slot, Add, Delete, Renew, Other}
 use Rattle.trace.specs.Entry.{pgnIn, entryIn}
 

@@ -1,15 +1,14 @@
 -- "Pairs into one port share its room and nothing else", and counters are exact while a trace has fewer than 2^64 events: laws of any trace. Assumes nothing.
-use Prim.Native.Nat.{ℕ, suc, _+_, _%_, _^_, _≤_, _<_}
+use Prim.Native.Nat.{ℕ, suc, _^_, _≤_, _<_}
 use native.Mathlib.Nat.{mod-eq-of-lt}
 use native.Mathlib.Omega.{arith}
-use mathlib.Core.Path.{_≡_, refl, sym, ap, ap₂, _∙_}
-use mathlib.Core.Bool.{Bool, true, false, cond}
-use mathlib.Core.List.{List, [], _∷_, _++_}
+use mathlib.Core.Path.{_≡_, refl, sym, ap, _∙_}
+use mathlib.Core.Bool.{Bool, true, false}
+use mathlib.Core.List.{List, [], _∷_}
 use lib.Dec.{eqb, ltb}
 use lib.ListN.{length}
 use Rattle.words.specs.Runs.{only}
 use Rattle.words.proofs.Tests.{test}
-use Rattle.counters.specs.declared.Counters.{Counters}
 use Rattle.counters.specs.declared.Fate.{Fate}
 use Rattle.counters.specs.declared.Fate.the-variants.{Refused, Filtered, Turned, Queued, Sent}
 use Rattle.queue.specs.Queue.{leaver}

@@ -2,10 +2,10 @@
 use Prim.Native.Nat.{ℕ, _-_, _≤_, _<_}
 use native.Mathlib.Omega.{arith}
 use mathlib.Core.Path.{_≡_, refl, sym, ap, _∙_}
-use mathlib.Core.Bool.{Bool, true, false, cond, true≢false}
+use mathlib.Core.Bool.{true}
 use mathlib.Core.List.{List, [], _∷_}
-use borrow.Author.Tests.{ltb-true, ltb-false, lt-ltb, le-ltb}
-use lib.Dec.{T, eqb, ltb}
+use borrow.Author.Tests.{ltb-false, lt-ltb, le-ltb}
+use lib.Dec.{ltb}
 use lib.ListN.{length}
 use Rattle.words.proofs.Tests.{test}
 use Rattle.answers.specs.Answers.{Said, plain, done}
@@ -13,9 +13,7 @@ use Rattle.answers.proofs.Tests.{oneOf}
 use Rattle.frame.specs.Frame.{greatestIdentifier, fieldsOf, pgnOf}
 use Rattle.pairs.specs.Pairs.{passes, decidedBy}
 use Rattle.ports.specs.Filters.{twoPorts, pairOf, pairAt, decided}
-use Rattle.counters.specs.declared.Fate.{Fate}
-use Rattle.counters.specs.declared.Fate.the-variants.{Refused, Filtered, Turned, Queued, Sent}
-use Rattle.counters.specs.Words.{countersAt, notedAt}
+use Rattle.counters.specs.Words.{countersAt}
 use Rattle.queue.specs.Row.{wordOf, entersAt}
 use Rattle.queue.proofs.Rows.{enter-stays}
 use Rattle.bridge.specs.Bridge.{Bridge, answerTo, Replied, offeredTo}

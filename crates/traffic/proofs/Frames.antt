@@ -1,21 +1,18 @@
 -- The frames that wait, and the words that stand for them. Assumes nothing.
-use Prim.Native.Nat.{ℕ, zero, suc, _+_, _*_, _-_, _/_, _%_, _^_, _≤_, _<_}
+use Prim.Native.Nat.{ℕ, _+_, _*_, _-_, _/_, _^_, _<_}
 use native.Mathlib.Omega.{arith}
-use mathlib.Core.Path.{_≡_, refl, sym, ap, subst, _∙_}
-use mathlib.Core.Bool.{true, false, cond}
-use mathlib.Core.Option.{Option, none, some, Option·map, Option·some-ne-none, Option·none-ne-some, Option·some-injective}
+use mathlib.Core.Path.{_≡_, sym, subst}
+use mathlib.Core.Bool.{true}
+use mathlib.Core.Option.{Option, some, Option·map, Option·some-ne-none, Option·some-injective}
 use mathlib.Core.List.{List, [], _∷_, _++_, map}
 use lib.Dec.{leb}
-use lib.ListN.{length}
 use Rattle.words.proofs.Tests.{test}
 use Rattle.ports.specs.Filters.{twoPorts}
 use Rattle.ports.proofs.Numbers.{two}
-use Rattle.counters.specs.declared.Fate.{Fate}
-use Rattle.counters.specs.declared.Fate.the-variants.{Refused, Filtered, Turned, Queued, Sent}
 use Rattle.queue.specs.Queue.{least, leaver, stayers}
 use Rattle.queue.specs.Row.{wordOf, fromIn, idIn, priorityIn}
-use Rattle.queue.proofs.Leaving.{none-stays, leaver-map, stayers-map}
-use Rattle.traffic.specs.Traffic.{Frame, frame, priorityOf, withFrame, cameFrom, manyFrom}
+use Rattle.queue.proofs.Leaving.{leaver-map, stayers-map}
+use Rattle.traffic.specs.Traffic.{Frame, priorityOf}
 
 -- the word of a frame
 abbrev pub wordFor : Frame → ℕ

@@ -1,13 +1,12 @@
 -- Fresh words: every counter is 0, and no frame waits. Assumes nothing.
 use Prim.Native.Nat.{ℕ, _+_, _*_, _-_, _≤_, _<_}
 use native.Mathlib.Omega.{arith}
-use mathlib.Core.Path.{_≡_, refl, sym, ap, _∙_}
-use mathlib.Core.List.{List, []}
-use lib.ListN.{length, getD, replicate, length-replicate}
+use mathlib.Core.Path.{_≡_, _∙_}
+use mathlib.Core.List.{[]}
+use lib.ListN.{getD, replicate, length-replicate}
 use Rattle.words.specs.Rows.{rowAt}
-use Rattle.words.proofs.Rows.{rowAt-getD, length-rowAt, zeros}
-use Rattle.counters.specs.declared.Counters.{Counters}
-use Rattle.counters.specs.Words.{noCounters, countersIn, countersAt}
+use Rattle.words.proofs.Rows.{rowAt-getD, zeros}
+use Rattle.counters.specs.Words.{noCounters, countersAt}
 use Rattle.counters.proofs.Rows.{read-at}
 use Rattle.queue.specs.Row.{waitingAt}
 use Rattle.queue.proofs.Words.{count-is, none-waits}

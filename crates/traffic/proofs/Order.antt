@@ -2,18 +2,17 @@
 use Prim.Native.Nat.{ℕ, _≤_, _<_}
 use native.Mathlib.Omega.{arith}
 use mathlib.Core.Path.{_≡_, refl, sym, ap, _∙_}
-use mathlib.Core.Bool.{Bool, true, false, cond}
+use mathlib.Core.Bool.{Bool}
 use mathlib.Core.Option.{Option, none, some}
-use mathlib.Core.List.{List, [], _∷_, _++_, append-assoc, append-nil}
-use lib.Dec.{eqb, ltb}
+use mathlib.Core.List.{List, [], _∷_, _++_, append-assoc}
 use lib.ListN.{length, getD}
-use Rattle.words.specs.Runs.{only, fold}
+use Rattle.words.specs.Runs.{only}
 use Rattle.words.proofs.Tests.{test}
 use Rattle.counters.specs.declared.Fate.{Fate}
 use Rattle.counters.specs.declared.Fate.the-variants.{Refused, Filtered, Turned, Queued, Sent}
-use Rattle.queue.specs.Queue.{least, leaver, stayers}
+use Rattle.queue.specs.Queue.{leaver, stayers}
 use Rattle.queue.proofs.Leaving.{none-stays, least-below, leaver-least, in-turn, leaves-some}
-use Rattle.traffic.specs.Traffic.{Event, Offer, Slot, eventsAt, Frame, frame, priorityOf, fateOf, withFrame, queueAfter, queueBy, waits, fates, arrived, countersOf, waiting, enteredIn, andThen, leftIn, ofPriority}
+use Rattle.traffic.specs.Traffic.{Event, Offer, Slot, eventsAt, Frame, frame, priorityOf, fateOf, withFrame, queueAfter, queueBy, waits, countersOf, enteredIn, andThen, leftIn, ofPriority}
 
 -- a priority number is one of three bits
 pub few : (x : Frame) → priorityOf x < 8

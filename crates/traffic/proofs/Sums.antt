@@ -1,14 +1,13 @@
 -- "Arrived equals filtered, sent, waiting, turned away and refused added together": laws of any trace; and what the fates of a pair make of its counters. Assumes nothing.
-use Prim.Native.Nat.{ℕ, zero, suc, _+_, _%_, _^_, _≤_, _<_}
-use native.Mathlib.Nat.{mod-eq-of-lt}
+use Prim.Native.Nat.{ℕ, suc, _+_, _%_, _^_}
 use native.Mathlib.Omega.{arith}
 use mathlib.Core.Path.{_≡_, refl, sym, ap, _∙_}
-use mathlib.Core.Bool.{Bool, true, false, cond}
+use mathlib.Core.Bool.{true, false, cond}
 use mathlib.Core.Option.{Option, none, some}
 use mathlib.Core.List.{List, [], _∷_, _++_}
 use lib.Dec.{eqb, ltb}
 use lib.ListN.{length}
-use Rattle.words.specs.Runs.{only, fold}
+use Rattle.words.specs.Runs.{fold}
 use Rattle.words.proofs.Tests.{test}
 use Rattle.counters.specs.declared.Counters.{Counters}
 use Rattle.counters.specs.declared.Fate.{Fate}
@@ -17,7 +16,7 @@ use Rattle.counters.specs.Count.{withFate}
 use Rattle.counters.specs.Words.{noCounters}
 use Rattle.queue.specs.Queue.{leaver, stayers}
 use Rattle.queue.proofs.Leaving.{none-stays, as-many, leaves-some}
-use Rattle.traffic.specs.Traffic.{Verdict, Refuses, Blocks, Passes, Event, Offer, Slot, eventsAt, Frame, frame, priorityOf, fateOf, withFrame, queueAfter, queueBy, waits, cameFrom, leavesFrom, fateAt, fatesIn, isOffer, arrivedIn, often, manyFrom, fates, arrived, filtered, queued, sent, turned, refused, waiting, wrapped, countersOf}
+use Rattle.traffic.specs.Traffic.{Verdict, Refuses, Blocks, Passes, Event, Offer, Slot, eventsAt, Frame, frame, priorityOf, fateOf, withFrame, queueAfter, queueBy, cameFrom, leavesFrom, fateAt, fatesIn, arrivedIn, often, manyFrom, fates, arrived, filtered, queued, sent, turned, refused, waiting, wrapped, countersOf}
 use Rattle.traffic.proofs.Order.{few}
 
 -- ---- one fate more

@@ -3,34 +3,32 @@
 use Prim.Native.Nat.{ℕ, suc, _+_, _-_, _^_, _≤_, _<_}
 use native.Mathlib.Omega.{arith}
 use mathlib.Core.Path.{_≡_, refl, sym, ap, ap₂, subst, _∙_}
-use mathlib.Core.Bool.{Bool, true, false, cond}
+use mathlib.Core.Bool.{true, false}
 use mathlib.Core.Option.{Option, none, some, Option·map}
 use mathlib.Core.List.{List, [], _∷_, _++_, map}
-use borrow.Author.Tests.{eqb-true, eqb-false, eq-eqb, ne-eqb, ltb-false, lt-ltb, le-ltb}
+use borrow.Author.Tests.{ltb-false}
 use lib.Dec.{eqb, ltb}
 use lib.ListN.{length, length-map}
-use Rattle.words.specs.Runs.{only, fold}
+use Rattle.words.specs.Runs.{fold}
 use Rattle.words.proofs.Tests.{test}
-use Rattle.answers.specs.Answers.{Said, plain, done}
+use Rattle.answers.specs.Answers.{Said, plain}
 use Rattle.frame.specs.Frame.{greatestIdentifier}
 use Rattle.pairs.specs.Pairs.{decidedBy}
-use Rattle.ports.specs.Filters.{twoPorts, pairOf, pairAt, freshWords, commanded, decided}
+use Rattle.ports.specs.Filters.{twoPorts, pairOf, freshWords, commanded, decided}
 use Rattle.commands.specs.Calls as commands
 use Rattle.commands.proofs.Commands as commands′
-use Rattle.counters.specs.declared.Counters.{Counters}
 use Rattle.counters.specs.declared.Fate.{Fate}
-use Rattle.counters.specs.declared.Fate.the-variants.{Refused, Filtered, Turned, Queued, Sent}
 use Rattle.counters.specs.Words.{countersAt}
 use Rattle.queue.specs.Queue.{leaver}
 use Rattle.queue.specs.Row.{wordOf, howMany, Entered, entersAt, leavesAt}
 use Rattle.queue.proofs.Rows.{waiting-most}
-use Rattle.bridge.specs.Bridge.{Bridge, bridge, freshBridge, isPort, firstOther, secondOther, thirdOther, answerTo, Met, met, metBy, Replied, replied, countedAs, offeredTo, Offers, offers, lastOffer, thenThird, thenSecond, offered, Slotted, slottedAs, sentFrom, slotted, Stands, stands, standing}
+use Rattle.bridge.specs.Bridge.{Bridge, freshBridge, isPort, firstOther, secondOther, thirdOther, answerTo, Met, metBy, replied, countedAs, offeredTo, offers, offered, Slotted, slottedAs, sentFrom, slotted, stands, standing}
 use Rattle.bridge.specs.declared.Offered.the-variants.{To, NoPort}
 use Rattle.bridge.proofs.Calls.{each-port}
 use Rattle.traffic.specs.Traffic.{Verdict, Refuses, Blocks, Passes, Event, Offer, Slot, Frame, priorityOf, fateOf, waits, cameFrom, manyFrom, waiting, countersOf}
-use Rattle.traffic.specs.Runs.{Call, Arrives, Leaves, Order, State, state, afterCall, run, verdictOf, filtersBy, offerTo, heard, happened, metAs, wordsAfter, wordsBy, Real, AllReal, becomes, slotSaid}
+use Rattle.traffic.specs.Runs.{Call, Arrives, Leaves, Order, state, afterCall, run, verdictOf, filtersBy, offerTo, heard, happened, metAs, wordsAfter, wordsBy, Real, AllReal, becomes, slotSaid}
 use Rattle.traffic.proofs.Sums.{counters-by}
-use Rattle.traffic.proofs.Frames.{wordFor, Sound, from-back, id-back, AllSound, sound-leaver}
+use Rattle.traffic.proofs.Frames.{wordFor, from-back, id-back, AllSound, sound-leaver}
 use Rattle.traffic.proofs.Words.{Says, row-below, port-to, other-waits, fate-by, gone-none, gone-some, who-leaves, one-more, words-say}
 
 -- ---- ports

@@ -1,33 +1,32 @@
 -- What the words of a bridge say of a trace: after any events, each port's words hold the frames that wait there, and each pair's words what became of its frames. Assumes nothing.
-use Prim.Native.Nat.{ℕ, zero, suc, _+_, _-_, _≤_, _<_}
+use Prim.Native.Nat.{ℕ, _+_, _-_, _<_}
 use native.Mathlib.Omega.{arith}
-use native.Mathlib.Decide.{ℕ-discrete}
 use mathlib.Core.Path.{_≡_, refl, sym, ap, ap₂, subst, _∙_}
-use mathlib.Core.Bool.{Bool, true, false, cond, _&&_}
+use mathlib.Core.Bool.{Bool, true, false, cond}
 use mathlib.Core.Option.{Option, none, some, Option·map, Option·some-ne-none, Option·none-ne-some, Option·some-injective}
 use mathlib.Core.List.{List, [], _∷_, _++_, map, map-append}
-use borrow.Author.Tests.{eqb-true, eqb-false, eq-eqb, ne-eqb, le-leb}
+use borrow.Author.Tests.{eqb-true, eqb-false, eq-eqb, le-leb}
 use lib.Dec.{eqb, ltb}
 use lib.ListN.{length, length-map, length-replicate}
-use Rattle.words.specs.Runs.{only, fold}
-use Rattle.words.proofs.Tests.{test, never}
+use Rattle.words.specs.Runs.{fold}
+use Rattle.words.proofs.Tests.{test}
 use Rattle.ports.specs.Filters.{twoPorts, pairOf}
 use Rattle.ports.proofs.Numbers.{two, number-fits}
 use Rattle.commands.proofs.Numbers.{number-own}
 use Rattle.counters.specs.declared.Counters.{Counters}
 use Rattle.counters.specs.declared.Fate.{Fate}
-use Rattle.counters.specs.declared.Fate.the-variants.{Refused, Filtered, Turned, Queued, Sent}
+use Rattle.counters.specs.declared.Fate.the-variants.{Turned, Queued, Sent}
 use Rattle.counters.specs.Count.{withFate}
 use Rattle.counters.specs.Words.{noCounters, countersAt, notedAt}
 use Rattle.counters.proofs.Rows.{long-noted, at-noted, at-others}
 use Rattle.queue.specs.Queue.{leaver, stayers}
-use Rattle.queue.specs.Row.{wordOf, fromIn, priorityIn, Entered, entersAt, Gone, leavesAt, waitingAt}
+use Rattle.queue.specs.Row.{wordOf, fromIn, priorityIn, entersAt, Gone, leavesAt, waitingAt}
 use Rattle.queue.proofs.Rows.{enter-fits, enter-long, enter-own, enter-other, leave-long, leave-own, leave-other, leave-who}
-use Rattle.bridge.specs.Bridge.{Bridge, bridge, freshBridge, isPort, Met, met, countedAs, sentFrom, slotted}
+use Rattle.bridge.specs.Bridge.{Bridge, bridge, freshBridge, isPort, Met, slotted}
 use Rattle.bridge.proofs.Calls.{port-is}
-use Rattle.traffic.specs.Traffic.{Verdict, Refuses, Blocks, Passes, Event, Offer, Slot, isAt, eventsAt, Frame, frame, priorityOf, fateOf, withFrame, queueAfter, queueBy, waits, leavesFrom, fateAt, fatesIn, fates}
+use Rattle.traffic.specs.Traffic.{Verdict, Refuses, Blocks, Passes, Event, Offer, Slot, isAt, Frame, frame, priorityOf, fateOf, withFrame, queueAfter, waits, fateAt, fatesIn, fates}
 use Rattle.traffic.specs.Runs.{metAs, wordsAfter, wordsBy, Real, AllReal}
-use Rattle.traffic.proofs.Frames.{wordFor, Sound, from-back, word-leaves, words-stay, AllSound, sound-behind, sound-stay, sound-leaver}
+use Rattle.traffic.proofs.Frames.{wordFor, from-back, word-leaves, words-stay, AllSound, sound-behind, sound-stay, sound-leaver}
 use Rattle.traffic.proofs.Fresh.{fresh-counters, fresh-queue}
 
 pub record Says (b : Bridge) (h : List Event) : Type 0 where

@@ -1,7 +1,7 @@
 -- Runs of calls on a bridge and its filters, with any numbers, and what happened in them. A run is a list of calls, the latest first. Assumes nothing.
 use Prim.Native.Nat.{ℕ, _-_, _<_, _^_}
 use mathlib.Core.Path.{_≡_}
-use mathlib.Core.Bool.{Bool, true, false, cond}
+use mathlib.Core.Bool.{true, cond}
 use mathlib.Core.Option.{Option, none, some}
 use mathlib.Core.List.{List, [], _∷_, _++_}
 use lib.Dec.{eqb}
@@ -12,8 +12,7 @@ use Rattle.ports.specs.Filters.{twoPorts, pairOf, commanded, decided}
 use Rattle.queue.specs.Row.{wordOf, Entered, entersAt}
 use Rattle.counters.specs.declared.Fate.{Fate}
 use Rattle.counters.specs.declared.Fate.the-variants.{Refused, Filtered, Turned, Queued}
-use Rattle.counters.specs.Words.{notedAt}
-use Rattle.bridge.specs.Bridge.{Bridge, bridge, freshBridge, isPort, firstOther, secondOther, thirdOther, Met, met, countedAs, offered, Slotted, slottedAs, slotted}
+use Rattle.bridge.specs.Bridge.{Bridge, freshBridge, isPort, firstOther, secondOther, thirdOther, Met, met, countedAs, offered, Slotted, slottedAs, slotted}
 use Rattle.traffic.specs.Traffic.{Verdict, Refuses, Blocks, Passes, Event, Offer, Slot, Frame, fateOf, waits}
 
 -- ---- calls

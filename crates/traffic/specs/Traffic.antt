@@ -1,7 +1,7 @@
 -- What happens at the ports of a bridge (02, Req 09), and what is counted of it: "each defined from the trace". A trace is a list of events, the latest first, and a queue is a plain
 -- list, the earliest first. Nothing here knows of words. Assumes nothing.
 use Prim.Native.Nat.{ℕ, _+_, _%_, _^_}
-use mathlib.Core.Bool.{Bool, true, false, cond}
+use mathlib.Core.Bool.{Bool, false, cond}
 use mathlib.Core.Option.{Option, none, some}
 use mathlib.Core.List.{List, [], _∷_, _++_}
 use lib.Dec.{eqb, ltb}

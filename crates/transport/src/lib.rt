@@ -29,6 +29,13 @@ pub const MOST: usize = 1785;
 // The bytes that the caller lends, as many for each session.
 pub const BYTES: usize = 14280;
 
+// Head words and bytes of all sessions, and room for one payload, as the caller lends them.
+pub type Heads = [u64; WORDS];
+
+pub type Bytes = [u8; BYTES];
+
+pub type Payload = [u8; MOST];
+
 // A session's words: its holder, the number of the packet that comes next, the size and the PGN of the payload.
 const ROW_WORDS: usize = 4;
 
@@ -74,7 +81,7 @@ fn holder_in(f: Fields) -> u64
 }
 
 // The lowest row with this holder, or 8.
-fn row_with(heads: &[u64; WORDS], holder: u64) -> usize
+fn row_with(heads: &Heads, holder: u64) -> usize
     ensures { λ r. ⌜ r ≡ rowWith (now (heads .entry)) holder ⌝ }
 {
     let words = &heads[..];
@@ -131,7 +138,7 @@ fn request_fault(d: &[u8; 8]) -> u8
 }
 
 // Where a holder's session goes: into its own row, else into the lowest that nobody holds; 8 where there is none.
-fn place_for(heads: &[u64; WORDS], holder: u64) -> usize
+fn place_for(heads: &Heads, holder: u64) -> usize
     ensures { λ r. ⌜ r ≡ placeFor (now (heads .entry)) holder ⌝ }
 {
     let i = row_with(heads, holder);
@@ -163,7 +170,7 @@ fn open_at(heads: &mut [u64], i: usize, holder: u64, size: u64, pgn: u64)
 }
 
 // A holder's session begins, or 30.
-fn begin(heads: &mut [u64; WORDS], holder: u64, size: u64, pgn: u64) -> u8
+fn begin(heads: &mut Heads, holder: u64, size: u64, pgn: u64) -> u8
     ensures { λ r. ⌜ outcome (plain r) (now (heads .exit)) ≡ opens (now (heads .entry)) holder size pgn ⌝ }
 {
     let i = place_for(heads, holder);
@@ -175,7 +182,7 @@ fn begin(heads: &mut [u64; WORDS], holder: u64, size: u64, pgn: u64) -> u8
 }
 
 // Takes a frame that may be a request to send: 1, 2, 3, 24, 31, 30, else 0, and the session of its source and destination begins anew.
-pub fn request(heads: &mut [u64; WORDS], id: u32, len: u8, d: &[u8; 8]) -> Answer
+pub fn request(heads: &mut Heads, id: u32, len: u8, d: &[u8; 8]) -> Answer
     ensures { λ r. ⌜ outcome (inNumbers r) (now (heads .exit)) ≡ requested (now (heads .entry)) id len (now (d .entry)) ⌝ }
 {
     let f = frame::split(id);
@@ -282,9 +289,9 @@ fn take_at(heads: &mut [u64], bytes: &mut [u8], out: &mut [u8], i: usize, d: &[u
 // Takes a frame that may be a packet: 1, 2, 3, 28, 29, else 0. The last packet of a session lays the payload over the start of `out`, its answer carries the size,
 // and the payload's PGN is beside it; every other answer leaves `out`.
 pub fn packet(
-    heads: &mut [u64; WORDS],
-    bytes: &mut [u8; BYTES],
-    out: &mut [u8; MOST],
+    heads: &mut Heads,
+    bytes: &mut Bytes,
+    out: &mut Payload,
     id: u32,
     len: u8,
     d: &[u8; 8],
@@ -306,7 +313,7 @@ pub fn packet(
 // ---- the memory
 
 // Makes head words of which nobody holds a row; the bytes may hold anything.
-pub fn fresh(heads: &mut [u64; WORDS])
+pub fn fresh(heads: &mut Heads)
     ensures { λ r. ⌜ now (heads .exit) ≡ freshHeads ⌝ }
 {
     words::clear(heads);

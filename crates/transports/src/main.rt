@@ -15,7 +15,10 @@ use lines::front;
 use lines::more;
 use lines::two;
 use transport::BYTES;
+use transport::Bytes;
+use transport::Heads;
 use transport::MOST;
+use transport::Payload;
 use transport::WORDS;
 
 // The eight data bytes of a case.
@@ -23,7 +26,7 @@ fn data(b: &[u8; 16]) -> [u8; 8] {
     [b[6], b[7], b[8], b[9], b[10], b[11], b[12], b[13]]
 }
 
-fn request(heads: &mut [u64; WORDS], b: &[u8; 16]) {
+fn request(heads: &mut Heads, b: &[u8; 16]) {
     let d = data(b);
     let a = transport::request(heads, four(b[1], b[2], b[3], b[4]), b[5], &d);
     first(a.number);
@@ -40,7 +43,7 @@ fn show(out: &[u8], size: usize) {
     end();
 }
 
-fn packet(heads: &mut [u64; WORDS], held: &mut [u8; BYTES], out: &mut [u8; MOST], b: &[u8; 16]) {
+fn packet(heads: &mut Heads, held: &mut Bytes, out: &mut Payload, b: &[u8; 16]) {
     let d = data(b);
     let r = transport::packet(heads, held, out, four(b[1], b[2], b[3], b[4]), b[5], &d);
     let a = r.answer;
@@ -50,7 +53,7 @@ fn packet(heads: &mut [u64; WORDS], held: &mut [u8; BYTES], out: &mut [u8; MOST]
     show(out, a.detail as usize);
 }
 
-fn put(heads: &mut [u64; WORDS], b: &[u8; 16]) {
+fn put(heads: &mut Heads, b: &[u8; 16]) {
     let at = two(b[1], 0);
     if at < WORDS {
         let low = four(b[2], b[3], b[4], b[5]);
@@ -59,7 +62,7 @@ fn put(heads: &mut [u64; WORDS], b: &[u8; 16]) {
     }
 }
 
-fn run(heads: &mut [u64; WORDS], held: &mut [u8; BYTES], out: &mut [u8; MOST], b: &[u8; 16]) {
+fn run(heads: &mut Heads, held: &mut Bytes, out: &mut Payload, b: &[u8; 16]) {
     match b[0] {
         0 => transport::fresh(heads),
         1 => request(heads, b),
@@ -72,24 +75,15 @@ fn run(heads: &mut [u64; WORDS], held: &mut [u8; BYTES], out: &mut [u8; MOST], b
     }
 }
 
-// Reads one case and runs it; false where the input ends.
-fn case(heads: &mut [u64; WORDS], held: &mut [u8; BYTES], out: &mut [u8; MOST]) -> bool {
-    let mut b = [0u8; 16];
-    let n = io::read_full(STDIN_FILENO, &mut b);
-    if n < 16 {
-        return false;
-    }
-    run(heads, held, out, &b);
-    true
-}
-
 // What the calls are lent stands here. A proved loop has to end, so it counts its turns down, from a number that no run uses up.
 fn main() {
     let mut heads = [0u64; WORDS];
     let mut held = [0u8; BYTES];
     let mut out = [0u8; MOST];
+    let mut b = [0u8; 16];
     let mut turns = u64::MAX;
-    while turns > 0 && case(&mut heads, &mut held, &mut out) {
+    while turns > 0 && lines::case(&mut b) {
+        run(&mut heads, &mut held, &mut out, &b);
         turns -= 1;
     }
 }

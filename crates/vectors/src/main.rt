@@ -16,8 +16,6 @@
 mod lists;
 mod rooms;
 
-use libc::STDIN_FILENO;
-
 fn run(b: &[u8; 14]) {
     if (b[0] < 8) | (b[0] == 11) {
         rooms::run(b);
@@ -26,21 +24,12 @@ fn run(b: &[u8; 14]) {
     }
 }
 
-// Reads one case and runs it; false where the input ends.
-fn case() -> bool {
-    let mut b = [0u8; 14];
-    let n = io::read_full(STDIN_FILENO, &mut b);
-    if n < 14 {
-        return false;
-    }
-    run(&b);
-    true
-}
-
 // A proved loop has to end, so it counts its turns down, from a number that no run uses up.
 fn main() {
+    let mut b = [0u8; 14];
     let mut turns = u64::MAX;
-    while turns > 0 && case() {
+    while turns > 0 && lines::case(&mut b) {
+        run(&b);
         turns -= 1;
     }
 }

@@ -1,13 +1,20 @@
 -- The laws of rows, once for every width (specs/Rows.antt). Assumes nothing.
 use mathlib.Core.Path.{_≡_, refl, sym, ap, _∙_}
 use mathlib.Core.List.{List, _++_}
+use mathlib.Core.Bool.{Bool, false}
 use Prim.Native.Nat.{ℕ, zero, suc, _+_, _*_, _-_, _≤_, _<_}
 use native.Mathlib.Nat.{mul-le-mul-right, suc-mul, add-zero}
 use native.Mathlib.Decide.{decLt}
 use native.Mathlib.Omega.{arith}
+use borrow.Author.Count.{below-more}
+use borrow.Author.Tests.{eq-eqb, ne-eqb}
+use lib.Dec.{eqb}
 use lib.ListN.{length, take, drop, getD, length-append, length-take, length-drop, take-append-drop, List·getD-append, set, replicate}
 use lib.Seq.{take-at, drop-at, length-take-le, getD-take, getD-drop, ext-getD, take-set-le, take-set-lt, drop-set-lt, drop-set-add}
+use Rattle.words.specs.First.{first}
 use Rattle.words.specs.Rows.{rowAt, putAt}
+use Rattle.words.proofs.First.{first-at, first-none}
+use Rattle.words.proofs.Lowest.{None}
 
 -- a part that is lent from i * w to i * w + w is row i, and comes back as a row that is put
 pub span : (a w : ℕ) → a + w - a ≡ w
@@ -109,3 +116,26 @@ pub zeros : (n i : ℕ) → _≡_ {A = ℕ} (getD (replicate n 0) i 0) 0
 zeros zero i = refl
 zeros (suc n) zero = refl
 zeros (suc n) (suc i) = zeros n i
+
+-- ---- a loop that looks for the first of n rows whose first word is y
+
+module _ (w n : ℕ) (t : List ℕ) (long : length t ≡ n * w) (some : 0 < w) (y : ℕ) where
+  -- row i begins with y
+  abbrev pub Begins : ℕ → Bool
+  Begins i = eqb (getD (rowAt w t i) 0 0) y
+
+  -- the code compares the word where the row begins
+  seen : (i : ℕ) → i < n → Begins i ≡ eqb (getD t (i * w) 0) y
+  seen i h = ap (λ (x : ℕ). eqb x y) (rowAt-head w t i (omega (arith, long, rows-apart w i n h)) some)
+
+  -- it is y: row i is the first
+  pub row-hit : (i : ℕ) → i < n → None Begins i → getD t (i * w) 0 ≡ y → i ≡ first Begins n
+  row-hit i h passed e = sym (first-at Begins n i h passed (seen i h ∙ eq-eqb _ _ e))
+
+  -- it is not: on to the next
+  pub row-turn : (i : ℕ) → i < n → None Begins i → (getD t (i * w) 0 ≡ y → ⊥) → None Begins (i + 1)
+  row-turn i h passed e = below-more (λ (k : ℕ). Begins k ≡ false) i passed (seen i h ∙ ne-eqb _ _ e)
+
+  -- there is none
+  pub row-miss : (i : ℕ) → n ≤ i → None Begins i → n ≡ first Begins n
+  row-miss i h passed = sym (first-none Begins n (λ k l. passed k (omega arith)))

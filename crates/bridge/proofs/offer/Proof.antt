@@ -1,5 +1,5 @@
 -- `bridge::offer` meets its contract: three ports, one after another, which refuse it or are asked; or 15. Assumes nothing.
-use mathlib.Core.Path.{_≡_, sym, ap, _∙_}
+use mathlib.Core.Path.{sym, ap, _∙_}
 use native.Mathlib.Omega.{arith}
 use Rattle.ports.specs.Filters.{pairOf}
 use Rattle.bridge.specs.Bridge.{bridge}

@@ -2,8 +2,8 @@
 use mathlib.Core.Path.{_≡_, sym, ap, _∙_}
 use Rattle.counters.specs.declared.Counters.{Counters}
 use Rattle.counters.specs.declared.Fate.{Fate}
-use Rattle.counters.specs.declared.Fate.the-variants.{Refused, Filtered, Turned, Queued, Sent}
-use Rattle.counters.specs.Count.{withArrived, withFiltered, withQueued, withSent, withTurned, withRefused, withFate}
+use Rattle.counters.specs.declared.Fate.the-variants.{Refused, Filtered, Turned, Queued}
+use Rattle.counters.specs.Count.{withArrived, withFiltered, withQueued, withTurned, withRefused, withFate}
 use borrow.Author.Needs.{needs}
 use Rattle.counters.proofs.counted.Statement.{statement}
 use Rattle.counters.proofs.counted.Tie as tie

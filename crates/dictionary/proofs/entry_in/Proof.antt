@@ -23,10 +23,10 @@ here c =
 returns : tie.Need-returns
 unfolding foundRow
 returns c =
-    let b = c .before .before in
+    let b = c .before .before .before in
     let s = b .before .before .before in
     let e = ap foundRow (sym (b .found .given .1)) ∙ b .before .before .row-in .ensures in
-    (e, pair-at (now (s .args .rows)) _ .1 ∙ sym (width-found (now (s .args .rows)) (s .pre) (s .args .spn) _ e .1))
+    (e, c .wide .ensures ∙ pair-at (now (s .args .rows)) _ .1 ∙ sym (width-found (now (s .args .rows)) (s .pre) (s .args .spn) _ e .1))
 
 returns-2 : tie.Need-returns-2
 unfolding foundRow
@@ -38,4 +38,4 @@ returns-2 c =
 pub entry-in-spec : {M : Type 1} → statement M
 entry-in-spec =
     tie.close
-    (tie.spec (λ c κs. search needs) (λ c. search needs) (λ c. omega (arith, here c)) here (λ c. search needs) (λ c. search needs) returns returns-2)
+    (tie.spec (λ c κs. search needs) (λ c. search needs) (λ c. omega (arith, here c)) here (λ c. search needs) (λ c κs. search needs) (λ c. search needs) returns returns-2)

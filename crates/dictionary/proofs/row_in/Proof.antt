@@ -31,33 +31,37 @@ loop-holds c =
 
 loop-again : tie.Need-loop-again Inv-loop μ-loop
 loop-again c =
-    let l = c .before .before .before .loop in
-    let s = c .before .before .before .before in
+    let l = c .before .before .before .before .loop in
+    let s = c .before .before .before .before .before in
     let spn = s .args .spn in
     let ps = now (s .args .rows) in
-    let went = c .step .ensures .0 ∙ ap (λ (x : ℕ). cond (leb spn x) (l .n / 2) 0) (pair-at ps (l .hi - l .n / 2) .0) in
+    let went = c .step .ensures .0 ∙ ap (λ (x : ℕ). cond (leb spn x) (l .n / 2) 0) (c .before .wide .ensures ∙ pair-at ps (l .hi - l .n / 2) .0) in
     (omega arith, omega arith, omega arith, leads-turn (notBelow ps spn) (length ps) (l .hi) (l .n) _ (omega arith) (ap (λ (x : ℕ). l .hi - x) went) (l .inv .3))
 
 returns : tie.Need-returns Inv-loop μ-loop
 unfolding foundRow
 returns c =
-    let l = c .before .before .before .loop in
-    let s = c .before .before .before .before in
+    let w = c .before in
+    let l = w .before .before .before .loop in
+    let s = w .before .before .before .before in
     let ps = now (s .args .rows) in
-    number-found ps (s .pre) (s .args .spn) (l .hi) (l .inv .2) (sym (pair-at ps (l .hi) .0) ∙ c .if1 .taken)
+    number-found ps (s .pre) (s .args .spn) (l .hi) (l .inv .2) (sym (w .wide2 .ensures ∙ pair-at ps (l .hi) .0) ∙ c .if1 .taken)
 
 returns-2 : tie.Need-returns-2 Inv-loop μ-loop
 unfolding foundRow
 returns-2 c =
-    let l = c .before .before .before .loop in
-    let s = c .before .before .before .before in
+    let w = c .before in
+    let l = w .before .before .before .loop in
+    let s = w .before .before .before .before in
     let ps = now (s .args .rows) in
     let e = leads-there (notBelow ps (s .args .spn)) (length ps) (l .hi) (l .n) (omega arith) (l .inv .3) in
-    halved-nowhere ps (s .pre) (s .args .spn) (λ has. c .if1 .left (pair-at ps (l .hi) .0 ∙ ap (λ (i : ℕ). rowIn (rowsIn ps) i .spn) e ∙ has))
+    halved-nowhere ps (s .pre) (s .args .spn)
+    (λ has. c .if1 .left (w .wide2 .ensures ∙ pair-at ps (l .hi) .0 ∙ ap (λ (i : ℕ). rowIn (rowsIn ps) i .spn) e ∙ has))
 
 pub row-in-spec : {M : Type 1} → statement M
 row-in-spec =
     tie.close
     (tie.spec Inv-loop μ-loop (λ c. omega (arith, c .pre .0)) loop-holds (λ c. omega arith) (λ c. search needs) (λ c. omega arith) (λ c. search needs)
-    (λ c κs. search needs) (λ c. omega arith) (λ c. omega arith) (λ c. omega (arith, turns-halved (c .before .before .before .loop .n) (omega arith))) loop-again
-    (λ c. search needs) (λ c. search needs) (λ c. search needs) returns returns-2)
+    (λ c κs. search needs) (λ c κs. search needs) (λ c. omega arith) (λ c. omega arith)
+    (λ c. omega (arith, turns-halved (c .before .before .before .before .loop .n) (omega arith))) loop-again (λ c. search needs) (λ c. search needs) (λ c. search needs)
+    (λ c κs. search needs) returns returns-2)

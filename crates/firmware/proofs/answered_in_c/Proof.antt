@@ -36,7 +36,7 @@ returns c =
 returns-2 : tie.Need-returns-2
 returns-2 c =
     let t = c .before .before .before in
-    no-port _ _ _ (t .before .enum-told .given .1) (said (t .plainly2 .result) _ _ (c .before .before .in-c5 .ensures) (t .plainly2 .ensures)) (said (c .before .plainly3 .result) _ _ (c .in-c6 .ensures) (c .before .plainly3 .ensures))
+    no-port _ _ _ (t .before .enum-told .given .1) (said (c .before .plainly3 .result) _ _ (c .in-c6 .ensures) (c .before .plainly3 .ensures)) (said (t .plainly2 .result) _ _ (c .before .before .in-c5 .ensures) (t .plainly2 .ensures))
 
 pub answered-in-c-spec : {M : Type 1} → statement M
 answered-in-c-spec =

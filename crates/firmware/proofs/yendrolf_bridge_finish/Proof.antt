@@ -5,7 +5,7 @@ use Rattle.firmware.proofs.yendrolf_bridge_finish.Statement.{statement}
 use Rattle.firmware.proofs.yendrolf_bridge_finish.Tie as tie
 
 returns : tie.Need-returns
-returns c = simp (c .in-c .ensures, ← c .before .before .before .before .before .day-of .ensures) (c .before .before .before .finish .ensures)
+returns c = simp (c .in-c .ensures) (c .before .before .before .finish .ensures)
 
 pub yendrolf-bridge-finish-spec : {M : Type 1} → statement M
-yendrolf-bridge-finish-spec = tie.close (tie.spec (λ c κs. search needs) (λ c κs. search needs) (λ c κs. search needs) (λ c. search needs) returns)
+yendrolf-bridge-finish-spec = tie.close (tie.spec (λ c κs. search needs) (λ c κs. search needs) (λ c. search needs) returns)

@@ -1,6 +1,6 @@
 -- `firmware::yendrolf_bridge_offer` meets its contract: the promise of the room below, with the answers as C gets them.
 -- Assumes nothing.
-use mathlib.Core.Path.{_≡_, ap, _∙_}
+use mathlib.Core.Path.{_≡_, ap}
 use Rattle.bridge.specs.declared.Offered.{Offered}
 use Rattle.bridge.specs.Bridge.{Bridge, Offers, offers, Answers, answersOf, answering, inAnswers}
 use borrow.Author.Needs.{needs}

@@ -5,7 +5,7 @@ use Rattle.firmware.proofs.yendrolf_table_finish.Statement.{statement}
 use Rattle.firmware.proofs.yendrolf_table_finish.Tie as tie
 
 returns : tie.Need-returns
-returns c = simp (c .in-c .ensures, ← c .before .before .before .before .before .tally-of .ensures) (c .before .before .before .finish .ensures)
+returns c = simp (c .in-c .ensures) (c .before .before .before .finish .ensures)
 
 pub yendrolf-table-finish-spec : {M : Type 1} → statement M
-yendrolf-table-finish-spec = tie.close (tie.spec (λ c κs. search needs) (λ c κs. search needs) (λ c κs. search needs) (λ c. search needs) returns)
+yendrolf-table-finish-spec = tie.close (tie.spec (λ c κs. search needs) (λ c κs. search needs) (λ c. search needs) returns)

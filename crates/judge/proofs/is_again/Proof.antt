@@ -1,5 +1,5 @@
 -- `is_again`: an SPN whose mark is not set was not passed. Assumes nothing.
-use mathlib.Core.Path.{_≡_, sym, ap, _∙_}
+use mathlib.Core.Path.{sym, ap, _∙_}
 use Prim.Native.Nat.{ℕ, _%_}
 use denote.Ref.{now}
 use borrow.Author.Needs.{needs}

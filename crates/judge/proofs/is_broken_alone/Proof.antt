@@ -7,4 +7,4 @@ returns : tie.Need-returns
 returns c = cc
 
 pub is-broken-alone-spec : {M : Type 1} → statement M
-is-broken-alone-spec = tie.close (tie.spec (λ c κs. search needs) (λ c κs. search needs) (λ c κs. search needs) returns)
+is-broken-alone-spec = tie.close (tie.spec (λ c κs. search needs) returns)

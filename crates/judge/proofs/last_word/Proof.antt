@@ -1,9 +1,5 @@
 -- `last_word`: 8 or usable, by the test. Assumes nothing.
-use mathlib.Core.Path.{_≡_, sym, ap, _∙_}
-use mathlib.Core.Bool.{Bool, cond}
 use borrow.Author.Needs.{needs}
-use Rattle.answers.specs.Answers.{at}
-use Rattle.judge.specs.Judge.{wrongTransport}
 use Rattle.judge.proofs.last_word.Statement.{statement}
 use Rattle.judge.proofs.last_word.Tie as tie
 

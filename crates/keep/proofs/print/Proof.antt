@@ -1,6 +1,5 @@
 -- `print`: what is written is no more than the buffer. Assumes nothing.
 use mathlib.Core.Path.{sym}
-use native.Mathlib.Omega.{arith}
 use borrow.Author.Needs.{needs}
 use lib.Seq.{length-take-le}
 use Rattle.keep.proofs.print.Statement.{statement}

@@ -4,7 +4,7 @@ use mathlib.Core.Path.{_≡_, sym, ap, _∙_}
 use native.Mathlib.Omega.{arith}
 use borrow.Author.Needs.{needs}
 use Rattle.image.specs.Write.{rowSize, behind}
-use Rattle.image.specs.Read.{rowCount, formOf, countAt}
+use Rattle.image.specs.Read.{countAt}
 use Rattle.load.specs.Fed.{fedRows, fedFrames}
 use Rattle.load.proofs.Fed.{rows-turn, rows-done}
 use Rattle.load.proofs.hear_all.Statement.{statement}

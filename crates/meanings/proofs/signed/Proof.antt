@@ -1,6 +1,6 @@
 -- `signed`: of a number below 0, -1 less it is no negative number and one less than how far it lies below, so neither the cast nor the sum traps. Assumes nothing.
 use Prim.Native.Nat.{ℕ, suc, _^_, _<_}
-use mathlib.Core.Path.{_≡_, refl, sym, ap, _∙_}
+use mathlib.Core.Path.{_≡_, ap}
 use mathlib.Core.Bool.{true, false, true≢false}
 use native.Mathlib.Omega.{arith}
 use lib.Dec.{T}

@@ -1,6 +1,5 @@
 -- `is_odd`: the tests of its definition. Assumes nothing.
 use mathlib.Core.Path.{refl}
-use borrow.Author.Needs.{needs}
 use Rattle.places.specs.Place.{odd}
 use Rattle.places.proofs.is_odd.Statement.{statement}
 use Rattle.places.proofs.is_odd.Tie as tie

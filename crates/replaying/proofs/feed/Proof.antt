@@ -1,43 +1,41 @@
 -- `replaying::feed` meets its contract: either the chunk completes no record, or the first record is the carried bytes with the start of the chunk. Assumes nothing.
-use mathlib.Core.Path.{_≡_, ap, _∙_}
-use mathlib.Core.List.{List}
-use Prim.Native.Nat.{ℕ, _-_}
-use native.Mathlib.Omega.{arith}
-use lib.ListN.{length, length-take}
-use Rattle.record.specs.Sized.{leftBy, overBy}
-use Rattle.record.proofs.Sized.{to-end}
+use mathlib.Core.Path.{_≡_}
+use lib.ListN.{length}
 use Rattle.bridge.specs.Bridge.{bridge}
-use Rattle.replaying.specs.Feed.{State, state, step, cutOff}
-use Rattle.replaying.proofs.Chunks.{still-short, made-whole}
+use Rattle.replaying.specs.Feed.{state}
+use Rattle.replaying.proofs.Chunks.{taken-few, fed-short, fed-whole}
 use borrow.Author.Needs.{needs}
 use Rattle.replaying.proofs.feed.Statement.{statement}
 use Rattle.replaying.proofs.feed.Tie as tie
 
 -- the tally's array has 14 bytes
-carry-long : (c : tie.After-left-in) → length (c .before .before .before .before .args .s .carry) ≡ 14
+carry-long : (c : tie.After-begin) → length (c .before .before .before .before .before .before .args .s .carry) ≡ 14
 carry-long c = search needs
 
 returns : tie.Need-returns
 returns c =
-    let n = c .before .before .before in
-    let a = n .before .before .before .before .args in
-    still-short (bridge (a .c .now) (a .q .now)) (a .w .now) (a .s) (a .chunk .now) (n .left-in .result) (n .left-in .ensures .0) (n .left-in .ensures .1) (carry-long n) (c .before .before .if1 .taken) _
-    (c .joined .ensures)
+    let g = c .before .before .before in
+    let a = g .before .before .before .before .before .before .args in
+    fed-short (bridge (a .c .now) (a .q .now)) (a .w .now) (a .s) (a .chunk .now) (carry-long g) (g .begin .result) (g .begin .ensures .1) _ (g .begin .ensures .0) (c .if1 .taken)
+
+few : tie.Need-sub-behind
+few c =
+    let g = c .before .before .before .before .before .before .before .before in
+    let a = g .before .before .before .before .before .before .args in
+    taken-few (bridge (a .c .now) (a .q .now)) (a .w .now) (a .s) (a .chunk .now) (carry-long g) (g .begin .result) (g .begin .ensures .1)
 
 returns-2 : tie.Need-returns-2
 returns-2 c =
-    let o = c .before .before .before .before .before in
-    let j = o .before .before .before .before .before in
-    let t = j .before .before .before in
-    let n = t .before in
-    let a = n .before .before .before .before .args in
-    let l = a .chunk .now in
-    let u : State = state (bridge (o .one .last .0) (o .one .last .1 .0)) (o .one .last .1 .1 .0) (o .one .result) in
-    made-whole (bridge (a .c .now) (a .q .now)) (a .w .now) (a .s) l (n .left-in .result) (n .left-in .ensures .0) (n .left-in .ensures .1) (carry-long n) (t .if1 .left) _ u _ (j .joined2 .ensures)
-    (o .one .ensures) (c .rest .ensures ∙ ap (λ (x : List ℕ). cutOff (overBy step 14 u x) (leftBy 14 x)) (to-end l (14 - n .left-in .result)))
+    let v = c .before .all2 in
+    let u = c .before .before .before .before .before .before .all in
+    let d = c .before .before .before .before .before .before .before .before .before .before .before in
+    let g = d .before .before .before in
+    let a = g .before .before .before .before .before .before .args in
+    fed-whole (bridge (a .c .now) (a .q .now)) (a .w .now) (a .s) (a .chunk .now) (carry-long g) (g .begin .result) (g .begin .ensures .1) _ (g .begin .ensures .0) (d .if1 .left)
+    (state (bridge (u .last .0) (u .last .1 .0)) (u .last .1 .1 .0) (u .result)) (state (bridge (v .last .0) (v .last .1 .0)) (v .last .1 .1 .0) (v .result)) (c .tally-of .result) (u .ensures) (v .ensures)
+    (c .tally-of .ensures)
 
 pub feed-spec : {M : Type 1} → statement M
 feed-spec =
     tie.close
-    (tie.spec (λ c κs. search needs) (λ c. search needs) (λ c. omega (arith, carry-long (c .before))) (λ c. simp length-take (omega (arith, carry-long (c .before .before)))) (λ c κs. search needs) (λ c. search needs) returns (λ c. omega (arith, carry-long (c .before)))
-    (λ c. simp length-take (omega (arith, carry-long (c .before .before)))) (λ c. simp length-take (omega arith)) (λ c κs. search needs) (λ c. search needs) (λ c κs. search needs) (λ c. search needs) (λ c. search needs) (λ c. search needs) (λ c κs. search needs) returns-2)
+    (tie.spec (λ c. search needs) (λ c. search needs) (λ c κs. search needs) returns (λ c. search needs) (λ c κs. search needs) few few (λ c. search needs) (λ c κs. search needs) (λ c κs. search needs) returns-2)

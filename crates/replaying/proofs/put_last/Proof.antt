@@ -1,6 +1,6 @@
 -- `replaying::put_last` meets its contract: the kinds, and three numbers with what stands behind each. Assumes nothing.
 use Rattle.replaying.specs.Lines.{lastLine}
-use Rattle.text.proofs.Pieces.{follow}
+use Rattle.text.proofs.Pieces.{four-follow}
 use borrow.Author.Needs.{needs}
 use Rattle.replaying.proofs.put_last.Statement.{statement}
 use Rattle.replaying.proofs.put_last.Tie as tie
@@ -10,9 +10,7 @@ unfolding lastLine
 returns c =
     let d = c .before .before in
     let b = d .before .before .before .before .before in
-    let a = b .before .before .before .before .before in
-    follow _ _ _ _ _ (a .before .before .before .before .before .put-kinds .ensures)
-    (follow _ _ _ _ _ (a .put-number .ensures) (follow _ _ _ _ _ (b .put-number2 .ensures) (d .put-number3 .ensures)))
+    four-follow _ _ _ _ _ _ _ _ _ (b .before .before .before .before .before .before .before .before .before .before .put-kinds .ensures) (b .before .before .before .before .before .put-number .ensures) (b .put-number2 .ensures) (d .put-number3 .ensures)
 
 pub put-last-spec : {M : Type 1} → statement M
 put-last-spec =

@@ -1,15 +1,13 @@
--- The loop over the cases ends: its measure is the number of turns that are left, and nothing has to hold from turn to turn.
--- Assumes nothing.
+-- The loop over the cases ends: its measure is the number of turns that are left. A case stays as long as it is. Assumes nothing.
+use mathlib.Core.Path.{_≡_}
 use native.Mathlib.Omega.{arith}
+use lib.ListN.{length}
+use borrow.Author.Needs.{needs}
 use Rattle.runs.proofs.main.Statement.{statement}
 use Rattle.runs.proofs.main.Tie as tie
 
-abbrev Inv-loop : tie.InvT-loop
-Inv-loop w₀ t₀ turns₀ w t turns = Unit {0}
-
-abbrev μ-loop : tie.MeasureT-loop
-μ-loop w₀ t₀ turns₀ w t turns = turns
-
 pub main-spec : {M : Type 1} → statement M
 main-spec =
-    tie.close (tie.spec Inv-loop μ-loop (λ c. tt) (λ c κs. tt) (λ c. omega arith) (λ c. omega arith) (λ c. tt) (λ c. tt) (λ c. tt))
+    tie.close
+    (tie.spec (λ w₀ t₀ b₀ turns₀ w t b turns. length b ≡ 14) (λ w₀ t₀ b₀ turns₀ w t b turns. turns) (λ c. search needs) (λ c. search needs) (λ c κs. search needs) (λ c κs. search needs) (λ c. omega arith) (λ c. omega arith)
+    (λ c. search needs) (λ c. tt) (λ c. tt))

@@ -1,7 +1,6 @@
 -- `splice::join_in` meets its contract: the second covers what the first left, or finds nothing left. Assumes nothing.
-use mathlib.Core.Path.{_≡_, _∙_}
+use mathlib.Core.Path.{_∙_}
 use native.Mathlib.Omega.{arith}
-use lib.ListN.{length}
 use Rattle.splice.proofs.Laws.{covered-next, covered-full}
 use borrow.Author.Needs.{needs}
 use Rattle.splice.proofs.join_in.Statement.{statement}

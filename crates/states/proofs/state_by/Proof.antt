@@ -1,5 +1,4 @@
 -- `state_by`: an arm for each kind that has a row, and one for the rest. Assumes nothing.
-use mathlib.Core.Path.{_∙_}
 use borrow.Author.Needs.{needs}
 use borrow.Author.Tests.{ne-eqb}
 use Rattle.states.specs.States.{stateBy}

@@ -1,5 +1,5 @@
 -- `trace::read` meets its contract: by the length, and then by the first byte. Assumes nothing.
-use mathlib.Core.Path.{ap, _∙_}
+use mathlib.Core.Path.{ap}
 use Rattle.record.specs.declared.Record.{Record}
 use Rattle.trace.proofs.Entries.{too-short, is-frame, is-slot, is-add, is-delete, is-renew, is-other, slot-byte}
 use borrow.Author.Needs.{needs}

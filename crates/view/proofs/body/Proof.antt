@@ -1,5 +1,4 @@
 -- `view::body` meets its contract: the walk of `Through`, at `contents::row_body`. Assumes nothing.
-use mathlib.Core.Path.{_≡_}
 use mathlib.Core.List.{[], _∷_}
 use mir.Syntax.{named, imm, tyInt, tyRef, w8}
 use denote.Builtin.{u8, SliceRefOf}

@@ -42,7 +42,7 @@ use Rattle.contents.proofs.row_next.Met as callee-thm
 use Rattle.view.specs.declared.View.{View}
 use Rattle.view.proofs.View as S
 use Rattle.view.proofs.View.Laws as S′
-use Rattle.view.proofs.Through.{B, Fact, Callee, work, on-slice, mach, Own, to, Said, apart, said}
+use Rattle.view.proofs.Through.{B, Fact, Callee, work, on-slice, to, apart, said}
 use Rattle.view.proofs.next.Key.{name as #view·next}
 use Rattle.view.proofs.next as next
 use Rattle.view.proofs.next.Statement as stated
