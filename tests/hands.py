@@ -234,7 +234,12 @@ def program_of(child):
 
 
 def is_running(pid):
-    return of_process(pid, "stat").rpartition(") ")[2][:1] not in ("", "Z")
+    """Whether a process still runs after a second: one that has ended takes a moment to go, an emulator longer than the program itself."""
+    for _ in range(100):
+        if of_process(pid, "stat").rpartition(") ")[2][:1] in ("", "X", "Z"):
+            return False
+        time.sleep(0.01)
+    return True
 
 
 def stopped(number, which, command="./list"):
@@ -311,6 +316,10 @@ def on_a_fresh_copy(rt, target, status, wrote, said, script="list", prints="list
         (kit / "bin" / "rt").chmod(0o755)
         (kit / "program").write_text(f"#!/bin/sh\necho {prints}\necho done >&3\n")
         (kit / "program").chmod(0o755)
+        emulator = kit / "on" / os.uname().machine / "toolchain" / "bin" / "qemu-x86_64"   # where this machine is not x86-64: it starts the program behind the loader's words
+        emulator.parent.mkdir(parents=True)
+        emulator.write_text("#!/bin/sh\nshift 3\nexec \"$@\"\n")
+        emulator.chmod(0o755)
         if target == "a file":
             (copy / "target").write_text("")
         code, out, err = run("'%s/%s' %s" % (copy, script, option), TWO, env={**os.environ, "RATTLE_HOME": str(kit)})
