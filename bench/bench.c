@@ -1,5 +1,6 @@
 /* bench HOW PART: the Rattle library beside bench/fast.c in one process, on one input: processor time a call, the median of RUNS runs that take turns. The C is
-   there as each compiler made it (bench/run), and the ratio is to the fastest of these. */
+   there as each compiler made it (bench/run), and the ratio is to the fastest of these.
+   bench --one TEST BUILD CALLS: makes so many calls of one test as one build has it, for who counts their instructions (bench/count); bench --names: the tests and the builds. */
 #define _POSIX_C_SOURCE 199309L
 #include <stdio.h>
 #include <stdlib.h>
@@ -653,8 +654,34 @@ static void measure(const struct test *t, uint64_t part)
     fflush(stdout);
 }
 
+/* The names of tests and builds, each by its number from 0. */
+static int names(void)
+{
+    for (size_t t = 0; t < sizeof tests / sizeof tests[0]; t++)
+        printf("test %zu %s\n", t, tests[t].name);
+    for (unsigned b = 0; b < BUILDS; b++)
+        printf("build %u %s\n", b, builds[b]);
+    return 0;
+}
+
+/* So many calls of one test, and nothing else that depends on their number. */
+static int one(size_t test, size_t build, uint64_t calls)
+{
+    if (test >= sizeof tests / sizeof tests[0] || build >= BUILDS)
+        return 2;
+    volatile uint64_t sum = tests[test].builds[build](calls);
+    (void)sum;
+    return 0;
+}
+
 int main(int argc, char **argv)
 {
+    if (argc == 2 && strcmp(argv[1], "--names") == 0)
+        return names();
+    if (argc == 5 && strcmp(argv[1], "--one") == 0) {
+        prepare();
+        return one(strtoull(argv[2], NULL, 10), strtoull(argv[3], NULL, 10), strtoull(argv[4], NULL, 10));
+    }
     uint64_t part = argc > 2 ? strtoull(argv[2], NULL, 10) : 1;   /* for a short look: one in so many calls */
     prepare();
     printf("| call |");

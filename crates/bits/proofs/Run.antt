@@ -3,14 +3,14 @@ use mathlib.Core.Path.{_≡_, refl, sym, ap, ap₂, _∙_}
 use mathlib.Core.Bool.{cond}
 use mathlib.Core.List.{List}
 use Prim.Native.Nat.{ℕ, zero, suc, _+_, _-_, _*_, _/_, _%_, _^_, _≤_, _<_, min, max}
-use native.Mathlib.Nat.{add-zero, mod-eq-of-lt, lt-of-lt-of-le}
+use native.Mathlib.Nat.{add-zero, one-mul, mod-eq-of-lt, lt-of-lt-of-le}
 use native.Mathlib.Decide.{ℕ-discrete, decLt}
 use native.Mathlib.Omega.{arith}
 use borrow.Author.Tests.{le-leb, lt-leb, lt-ltb, le-ltb}
 use lib.Bits.{bitAnd, bitOr, bitXor, differ, and-mask}
 use lib.Dec.{eqb, ltb}
 use lib.ListN.{length, getD, set}
-use lib.Pow.{pow-pos, pow-mono, ones-lt, shl-exact, shr-shr}
+use lib.Pow.{pow-pos, pow-lt, pow-mono, ones-lt, shl-exact, shr-shr}
 use lib.Seq.{getD-set-same, getD-set-other}
 use Rattle.bits.specs.Bits.{bit, bitAt, fromBits, bitAfter, runAt, masked}
 use Rattle.bits.proofs.Bits.{bit-lt, bit-mod, bit-shr, bit-low, bit-high, bit-above, bit-ones, bit-and, bit-or, bit-xor, bitAt-lt, at-bit, from-lt, from-add, from-same, from-of, bit-from}
@@ -22,6 +22,10 @@ pick : (x y m : ℕ) → x < 2 → y < 2 → m < 2 → max (min x (differ m 1)) 
 pick x y zero h l k = omega arith
 pick x y (suc zero) h l k = omega arith
 pick x y (suc (suc m)) h l k = absurd (omega arith)
+
+-- one, shifted: a power of two, of which one less is a mask of ones
+pub one-shifted : (n : ℕ) → n < 64 → (1 * 2 ^ n) % 2 ^ 64 ≡ 2 ^ n
+one-shifted n l = rw one-mul (mod-eq-of-lt (pow-lt l))
 
 pub merged : (k old mask new j : ℕ) → j < k
     → bit (bitOr (bitAnd old (bitXor mask (2 ^ k - 1))) (bitAnd new mask)) j ≡ cond (eqb (bit mask j) 1) (bit new j) (bit old j)

@@ -12,12 +12,12 @@ pub const PAIR_WORDS: usize = 6;
 // The counters of a pair. (`repr(C)`: firmware hands them to C as they are.)
 #[repr(C)]
 pub struct Counters {
-    pub arrived: u64,
-    pub filtered: u64,
-    pub queued: u64,
-    pub sent: u64,
-    pub turned: u64,
-    pub refused: u64,
+    pub arrived: u64, // all that were offered
+    pub filtered: u64, // those that the pair's list stopped
+    pub queued: u64, // those that wait or waited for a slot of the port
+    pub sent: u64, // those of them that left it
+    pub turned: u64, // those that came when 64 waited
+    pub refused: u64, // those that answer 1 names
 }
 
 // What becomes of a frame at a pair: one that is offered is refused, filtered, turned away or queued, and one that was queued is sent.

@@ -14,15 +14,11 @@ use Rattle.firmware.specs.declared.Brought.{Brought}
 use Rattle.firmware.specs.declared.Counted.{Counted}
 use Rattle.firmware.specs.declared.Held.{Held}
 use Rattle.firmware.specs.declared.Located.{Located}
-use Rattle.firmware.specs.declared.Meant.{Meant}
-use Rattle.firmware.specs.declared.Measured.{Measured}
 use Rattle.firmware.specs.declared.Pair.{Pair}
 use Rattle.firmware.specs.declared.Placed.{Placed}
 use Rattle.firmware.specs.declared.Row.{Row}
 use Rattle.hire.specs.Line.{Lined}
 use Rattle.image.specs.Part.{Entry}
-use Rattle.meaning.specs.declared.Meaning.{Meaning}
-use Rattle.meaning.specs.declared.Scaled.{Scaled}
 use Rattle.transport.specs.declared.Arrived.{Arrived}
 use Rattle.transport.specs.Rows.{Memory}
 use Rattle.transport.specs.Calls.{Received, received}
@@ -46,14 +42,6 @@ findingTo f = record { answer = saidTo (f .told); position = f .position; start 
 -- the parameter at a position
 abbrev pub standingTo : Placed → Standing
 standingTo p = record { answer = saidTo (p .told); spn = p .spn; start = p .start; width = p .width }
-
--- what an SPN's numbers are
-abbrev pub meantOf : Meaning → Meant
-meantOf m = record { offset = m .offset; resolution = m .resolution; width = m .width; kind = m .kind }
-
--- a number in thousandths of its unit
-abbrev pub measuredOf : Scaled → Measured
-measuredOf s = record { value = s .value; kind = s .kind; state = s .state }
 
 -- a row of an image
 abbrev pub rowTo : Row → Entry

@@ -30,7 +30,7 @@ ghost use Rattle.transport.specs.Calls.{requested, arrived};
 ghost use Rattle.bridge.specs.Bridge.{bridge, freshBridge, answersOf, answering, inAnswers, offered, slottedAs, slotted, standingAs, standing};
 ghost use Rattle.replaying.specs.Feed.{started as startedTrace, fed as fedTrace, feeding as feedingTrace};
 ghost use Rattle.replaying.specs.Lines.{finished as finishedTrace};
-ghost use Rattle.firmware.specs.Told.{meantOf, measuredOf, rowTo, version, saidTo, toldOf, heldOf, findingTo, standingTo, lineTo, broughtOf, broughtTo, answersIn, pairTo};
+ghost use Rattle.firmware.specs.Told.{rowTo, version, saidTo, toldOf, heldOf, findingTo, standingTo, lineTo, broughtOf, broughtTo, answersIn, pairTo};
 use answers::Answer;
 use ask::Found;
 use ask::Parameter;
@@ -43,6 +43,8 @@ use counters::Counters;
 use hire::Line;
 use lookup::Next;
 use lookup::Table;
+use meaning::Meaning;
+use meaning::Scaled;
 use ports::Filters;
 use tally::Cell;
 use tally::Cells;
@@ -77,9 +79,9 @@ fn in_c(a: Answer) -> Told
 #[repr(C)]
 pub struct Located {
     pub told: Told,
-    pub position: u32,
-    pub start: u32,
-    pub width: u32,
+    pub position: u32, // from 1
+    pub start: u32, // its first payload bit, from 0
+    pub width: u32, // in bits
 }
 
 // What finding gives, as C gets it.
@@ -99,7 +101,7 @@ fn found_in_c(found: Found) -> Located
 pub struct Placed {
     pub told: Told,
     pub spn: u32,
-    pub start: u32,
+    pub start: u32, // as of what finding gives
     pub width: u32,
 }
 
@@ -115,33 +117,16 @@ fn placed_in_c(parameter: Parameter) -> Placed
     }
 }
 
-// What an SPN's numbers are; all 0 where the dictionary does not have it.
-#[repr(C)]
-pub struct Meant {
-    pub offset: i64,
-    pub resolution: u32,
-    pub width: u32,
-    pub kind: u32,
-}
-
-// A number in thousandths of its unit, with its kind and its state.
-#[repr(C)]
-pub struct Measured {
-    pub value: i64,
-    pub kind: u32,
-    pub state: u32,
-}
-
 // A row of an image: its key and edition, and where its body begins and how long it is; all 0 on a refusal.
 #[repr(C)]
 pub struct Row {
     pub told: Told,
-    pub offset: usize,
-    pub length: usize,
+    pub offset: usize, // of the body in the image
+    pub length: usize, // of the body in bytes
     pub source: u32,
     pub destination: u32,
     pub k: u32,
-    pub edition: u32,
+    pub edition: u32, // 2004 or 2010
 }
 
 // A row of an image, as C gets it.
@@ -181,7 +166,7 @@ fn brought_in_c(came: Arrived) -> Brought
 #[repr(C)]
 pub struct Answered {
     pub told: Told,
-    pub first: Told,
+    pub first: Told, // of the lowest other port
     pub second: Told,
     pub third: Told,
 }
@@ -214,7 +199,7 @@ fn answered_in_c(offered: Offered) -> Answered
 pub struct Pair {
     pub told: Told,
     pub counters: Counters,
-    pub waiting: u64,
+    pub waiting: u64, // queued less sent
 }
 
 // What is counted of a pair, as C gets it.
@@ -252,7 +237,7 @@ fn line_in_c(line: Line) -> Counted
 // A held key, or four times 0. The fields are what the calls on a key take.
 #[repr(C)]
 pub struct Held {
-    pub held: u8,
+    pub held: u8, // 1, or 0 where there is no key
     pub source: u8,
     pub destination: u8,
     pub k: u8,
@@ -499,31 +484,18 @@ pub extern "C" fn yendrolf_image_body(image: &[u8], source: u8, destination: u8,
 
 // Width, resolution, offset and kind of an SPN.
 #[no_mangle]
-pub extern "C" fn yendrolf_meaning(spn: u32) -> Meant
-    ensures { λ r. ⌜ r ≡ meantOf (meaningOf spn) ⌝ }
+pub extern "C" fn yendrolf_meaning(spn: u32) -> Meaning
+    ensures { λ r. ⌜ r ≡ meaningOf spn ⌝ }
 {
-    let meaning = meaning::meaning_of(spn);
-    let offset = meaning.offset;
-    Meant {
-        offset,
-        resolution: meaning.resolution,
-        width: meaning.width,
-        kind: meaning.kind as u32,
-    }
+    meaning::meaning_of(spn)
 }
 
 // A number of an SPN in thousandths of its unit, with its state.
 #[no_mangle]
-pub extern "C" fn yendrolf_scaled(spn: u32, number: u32) -> Measured
-    ensures { λ r. ⌜ r ≡ measuredOf (scaledOf spn number) ⌝ }
+pub extern "C" fn yendrolf_scaled(spn: u32, number: u32) -> Scaled
+    ensures { λ r. ⌜ r ≡ scaledOf spn number ⌝ }
 {
-    let scaled = meaning::scaled_of(spn, number);
-    let value = scaled.value;
-    Measured {
-        value,
-        kind: scaled.kind as u32,
-        state: scaled.state as u32,
-    }
+    meaning::scaled_of(spn, number)
 }
 
 // ---- the listing of a log

@@ -8,9 +8,9 @@ pub const GREATEST: u32 = 0x1fff_ffff;
 
 // The six fields of a 29-bit identifier, from the top.
 pub struct Fields {
-    pub priority: u8,
-    pub reserved: u8,
-    pub page: u8,
+    pub priority: u8, // 3 bits
+    pub reserved: u8, // 1 bit
+    pub page: u8, // 1 bit
     pub pf: u8,
     pub ps: u8,
     pub source: u8,

@@ -10,14 +10,19 @@ use borrow.Author.Tests.{lt-leb, le-ltb, ne-eqb, eqb-false}
 use lib.Dec.{eqb}
 use lib.ListN.{length, getD, set}
 use lib.Seq.{getD-set-same, getD-set-other}
-use Rattle.words.specs.First.{lowest}
-use Rattle.words.proofs.Lowest.{None, neither, any-none, lowest-none, lowest-each}
-use Rattle.places.specs.Place.{endIn, endTo}
-use Rattle.places.proofs.Place.{end-runs, end-le, clear-after}
+use Rattle.words.specs.First.{any, lowest}
+use Rattle.words.proofs.Lowest.{None, neither, any-none, any-more, lowest-none, lowest-each}
+use Rattle.places.specs.Place.{sharesBit, endIn, endTo}
+use Rattle.places.proofs.Place.{shares-after, end-runs, end-le, clear-after}
 use Rattle.judge.specs.Judge.{mark, numberAt, shortest, marked, unknown, repeated, notAbove, uneven, overlaps, beyond}
 use Rattle.judge.specs.Walk.{Wide, Passed, crossing, broken}
 use Rattle.judge.proofs.Rules.{skip}
 use Rattle.judge.proofs.Slices.{plainly, Left}
+
+-- the largest end of none
+pub end-none : (starts widths : List ℕ) → 0 ≡ endTo starts widths 0
+unfolding endTo
+end-none starts widths = refl
 
 -- ---- where 5 and 6 need not be asked
 module _ (starts widths : List ℕ) where
@@ -32,6 +37,23 @@ module _ (starts widths : List ℕ) where
   -- and shares no bit with them
   pub not-crossing : (i : ℕ) → Wide widths i → endTo starts widths i ≤ numberAt starts i → crossing (numberAt starts) (numberAt widths) i ≡ false
   not-crossing i w l = rw (above i w l) (clear-after starts widths i l)
+
+  -- what starts below the largest end of the earlier ones is not the first
+  pub not-first : (i : ℕ) → 0 < endTo starts widths i → 0 < i
+  unfolding endTo
+  not-first zero l = l
+  not-first (suc i) l = omega arith
+
+  -- whether the one at index k shares a bit with the one at index i
+  abbrev sharesWith : ℕ → ℕ → Bool
+  sharesWith i k = sharesBit (numberAt starts k) (numberAt widths k) (numberAt starts i) (numberAt widths i)
+
+  -- where of the earlier ones only the last, at index j, may end after its start, 6 is asked of that one alone
+  pub last-alone : (j i : ℕ) → i ≡ suc j → endTo starts widths j ≤ numberAt starts i → overlaps (numberAt starts) (numberAt widths) i ≡ sharesWith i j
+  last-alone j i e l = ap (any (sharesWith i)) e ∙ any-more (sharesWith i) j ∙ rw (any-none (sharesWith i) j none)
+    where
+      none : (k : ℕ) → k < j → sharesWith i k ≡ false
+      none k m = shares-after (numberAt starts k) (numberAt widths k) (numberAt starts i) (numberAt widths i) (omega (arith, l, end-le starts widths k j m))
 
 -- ---- the marks
 module _ (seen spns : List ℕ) (i : ℕ) (passed : Passed seen spns i) where

@@ -1,19 +1,19 @@
 -- The judgement of what slices stand for, by the numbers that they hold. Assumes nothing.
 use Prim.Native.Nat.{ℕ, zero, suc, _≤_, _<_, max}
 use mathlib.Core.Path.{_≡_, refl, sym, ap, ap₂, _∙_}
-use mathlib.Core.Bool.{Bool, true, false, cond, _||_}
+use mathlib.Core.Bool.{Bool, false, cond}
 use mathlib.Core.Option.{Option, none, some}
 use mathlib.Core.List.{List, [], _∷_}
 use native.Mathlib.Decide.{decLt}
 use native.Mathlib.Omega.{arith}
-use borrow.Author.Tests.{eqb-true, eqb-false, le-leb, lt-leb, lt-ltb, le-ltb}
-use lib.Dec.{eqb, ltb}
+use borrow.Author.Tests.{eqb-true, eqb-false, le-leb, lt-leb}
+use lib.Dec.{eqb}
 use lib.ListN.{length}
 use Rattle.answers.specs.Answers.{Judged, at}
 use Rattle.words.specs.Lists.{tabulate}
-use Rattle.words.specs.First.{any, lowest}
+use Rattle.words.specs.First.{lowest}
 use Rattle.places.specs.Place.{endOf, endIn, endTo, bytesFor, sizeOf}
-use Rattle.words.proofs.Lowest.{any-zero, any-more, any-none, any-each, lowest-each, lowest-none, lowest-equal}
+use Rattle.words.proofs.Lowest.{lowest-each, lowest-none, lowest-equal}
 use Rattle.words.proofs.Lists.{length-tabulate, get-tabulate}
 use Rattle.judge.specs.Judge.{Param, missing, unknown, repeated, notAbove, uneven, overlaps, beyond, wrongTransport, firstNamed, sizeOver, judgeOver, mark, shortest, marked, numberAt, inSlices}
 use Rattle.words.proofs.Tests.{test, never}
@@ -49,32 +49,6 @@ end-equal : (ss ws xs ys : List ℕ) (n : ℕ) → ((i : ℕ) → i < n → endI
 unfolding endTo
 end-equal ss ws xs ys zero h = refl
 end-equal ss ws xs ys (suc n) h = ap₂ max (end-equal ss ws xs ys n (λ i l. h i (omega arith))) (h n (omega arith))
-
-above-either : (m a b : ℕ) → (ltb m a || ltb m b) ≡ ltb m (max a b)
-above-either m a b =
-    elim (decLt m a) [
-      | yes l ↦ rw (lt-ltb m a l, lt-ltb m (max a b) (omega arith))
-      | no l ↦ rw (le-ltb m a (omega arith)) (elim (decLt m b) [
-        | yes k ↦ rw (lt-ltb m b k, lt-ltb m (max a b) (omega arith))
-        | no k ↦ rw (le-ltb m b (omega arith), le-ltb m (max a b) (omega arith))
-      ])
-    ]
-
-module _ (starts widths : List ℕ) where
-  -- it is above 14,280 exactly where the end of some position is
-  any-beyond : (n : ℕ) → any (beyond (numberAt starts) (numberAt widths)) n ≡ ltb 14280 (endTo starts widths n)
-  unfolding endTo
-  any-beyond zero = any-zero (beyond (numberAt starts) (numberAt widths)) ∙ sym (le-ltb 14280 0 (omega arith))
-  any-beyond (suc n) =
-      any-more (beyond (numberAt starts) (numberAt widths)) n
-      ∙ ap (λ (b : Bool). b || beyond (numberAt starts) (numberAt widths) n) (any-beyond n)
-      ∙ above-either 14280 (endTo starts widths n) (endIn starts widths n)
-
-  pub none-beyond : (n : ℕ) → ltb 14280 (endTo starts widths n) ≡ false → lowest (beyond (numberAt starts) (numberAt widths)) n ≡ 0
-  none-beyond n e = lowest-none _ n (any-each _ n (any-beyond n ∙ e))
-
-  pub some-beyond : (n : ℕ) → ltb 14280 (endTo starts widths n) ≡ true → lowest (beyond (numberAt starts) (numberAt widths)) n ≡ 0 → ⊥
-  some-beyond n e z = never e (sym (any-beyond n) ∙ any-none _ n (lowest-each _ n z))
 
 -- ---- the rules
 module _ (n : ℕ) (transport : Bool) (spns starts widths : List ℕ) where

@@ -1,4 +1,4 @@
--- The rules of one position at once, as the walk over a map asks them (01, "A set and its judgement"): only the promises of private functions cite these. Assumes nothing.
+-- The rules of one position, each by its name, and at once, as the walk over a map asks them (01, "A set and its judgement"): only the promises of private functions cite these. Assumes nothing.
 use Prim.Native.Nat.{ℕ, _%_, _<_}
 use mathlib.Core.Path.{_≡_}
 use mathlib.Core.Bool.{Bool, not, _&&_, _||_}
@@ -6,7 +6,18 @@ use mathlib.Core.List.{List}
 use lib.Dec.{eqb}
 use lib.ListN.{getD}
 use Rattle.places.specs.Place.{odd}
-use Rattle.judge.specs.Judge.{mark, numberAt, repeated, notAbove, overlaps}
+use Rattle.judge.specs.Judge.{mark, numberAt, unknown, repeated, notAbove, uneven, overlaps, beyond}
+use Rattle.judge.specs.declared.Rule.{Rule}
+use Rattle.judge.specs.declared.Rule.the-variants.{Unknown, Repeated, NotAbove, Uneven, Overlaps, Beyond}
+
+-- whether a rule applies at an index that all three slices have
+abbrev pub ruleAt : Rule → List ℕ → List ℕ → List ℕ → ℕ → Bool
+ruleAt Unknown spns starts widths i = unknown (numberAt widths) i
+ruleAt Repeated spns starts widths i = repeated (numberAt spns) i
+ruleAt NotAbove spns starts widths i = notAbove (numberAt starts) i
+ruleAt Uneven spns starts widths i = uneven (numberAt starts) (numberAt widths) i
+ruleAt Overlaps spns starts widths i = overlaps (numberAt starts) (numberAt widths) i
+ruleAt Beyond spns starts widths i = beyond (numberAt starts) (numberAt widths) i
 
 -- each parameter below an index has a width
 abbrev pub Wide : List ℕ → ℕ → Type 0

@@ -1,25 +1,29 @@
 // Judging a map that stands in plain slices of SPNs, starts and widths (01, "A set and its judgement"; 02, Req 04). The slices may have any length and
 // hold anything; what they stand for is `inSlices`. In each search the count says what holds of the positions that were passed.
 ghost use mathlib.Core.Path.{_≡_};
-ghost use Prim.Native.Nat.{_%_, _≤_, _<_, min, max};
-ghost use mathlib.Core.Bool.{cond, not, _&&_, _||_};
-ghost use lib.Dec.{eqb, ltb};
+ghost use Prim.Native.Nat.{_-_, _%_, _≤_, _<_, min, max};
+ghost use mathlib.Core.Bool.{cond};
+ghost use lib.Dec.{ltb};
 ghost use lib.ListN.{length};
 ghost use Rattle.answers.specs.Answers.{saidOf};
 ghost use Rattle.words.specs.First.{lowest};
-ghost use Rattle.places.specs.Place.{odd, sharesBit, endIn, endTo, bytesFor};
+ghost use Rattle.places.specs.Place.{sharesBit, endIn, endTo, bytesFor};
 ghost use Rattle.answers.specs.Answers.{at};
-ghost use Rattle.judge.specs.Judge.{numberAt, shortest as shortestOf, marked, unknown, repeated, notAbove, uneven, overlaps, beyond, wrongTransport, judgeOver, inSlices};
-ghost use Rattle.judge.specs.Walk.{Wide, Passed, brokenBy, crossing, broken};
+ghost use Rattle.judge.specs.Judge.{numberAt, shortest as shortestOf, marked, unknown, repeated, notAbove, uneven, overlaps, wrongTransport, judgeOver, inSlices};
+ghost use Rattle.judge.specs.Walk.{ruleAt, Wide, Passed, brokenBy, crossing, broken};
 use answers::Judgement;
 
 // The width that says "nothing stands at this position".
 pub const MISSING: u32 = 0xffff_ffff;
 
-// What the search for shared bits found: the lowest position that shares a bit with an earlier one, or 0, and the largest end of those passed.
-struct Swept {
-    position: u8,
-    end: u64,
+// A rule that names a position which all three slices have, in the order of the tests.
+enum Rule {
+    Unknown,
+    Repeated,
+    NotAbove,
+    Uneven,
+    Overlaps,
+    Beyond,
 }
 
 // The smaller of two numbers.
@@ -77,21 +81,6 @@ fn lowest_missing(n: u8, spns: &[u32], starts: &[u32], widths: &[u32]) -> u8
     0
 }
 
-// The lowest position whose SPN is not in the dictionary, or 0.
-fn lowest_unknown(n: u8, widths: &[u32]) -> u8
-    requires { ⌜ n ≤ length (now widths) ⌝ }
-    ensures { λ r. ⌜ r ≡ lowest (unknown (numberAt (now (widths .entry)))) n ⌝ }
-{
-    let mut known = 0;
-    while known < n {
-        if number_at(widths, known) == 0 {
-            return known + 1;
-        }
-        known += 1;
-    }
-    0
-}
-
 // Whether the SPN at index i stands at a lower one too.
 fn is_repeated(spns: &[u32], i: u8) -> bool
     requires { ⌜ i < length (now spns) ⌝ }
@@ -108,21 +97,6 @@ fn is_repeated(spns: &[u32], i: u8) -> bool
     false
 }
 
-// The lowest position whose SPN stands at a lower one too, or 0.
-fn lowest_repeated(n: u8, spns: &[u32]) -> u8
-    requires { ⌜ n ≤ length (now spns) ⌝ }
-    ensures { λ r. ⌜ r ≡ lowest (repeated (numberAt (now (spns .entry)))) n ⌝ }
-{
-    let mut different = 0;
-    while different < n {
-        if is_repeated(spns, different) {
-            return different + 1;
-        }
-        different += 1;
-    }
-    0
-}
-
 // Whether the start at index i is not above the one before; the first has none before it.
 fn is_not_above(starts: &[u32], i: u8) -> bool
     requires { ⌜ i < length (now starts) ⌝ }
@@ -134,42 +108,12 @@ fn is_not_above(starts: &[u32], i: u8) -> bool
     number_at(starts, i) <= number_at(starts, i - 1)
 }
 
-// The lowest position whose start is not above the one before, or 0.
-fn lowest_not_above(n: u8, starts: &[u32]) -> u8
-    requires { ⌜ n ≤ length (now starts) ⌝ }
-    ensures { λ r. ⌜ r ≡ lowest (notAbove (numberAt (now (starts .entry)))) n ⌝ }
-{
-    let mut rising = 0;
-    while rising < n {
-        if is_not_above(starts, rising) {
-            return rising + 1;
-        }
-        rising += 1;
-    }
-    0
-}
-
 // Whether the parameter at index i has an odd width and starts at no multiple of 8.
 fn is_uneven(starts: &[u32], widths: &[u32], i: u8) -> bool
     requires { ⌜ (i < length (now starts)) × (i < length (now widths)) ⌝ }
     ensures { λ r. ⌜ r ≡ uneven (numberAt (now (starts .entry))) (numberAt (now (widths .entry))) i ⌝ }
 {
     places::is_odd(number_at(widths, i)) & (number_at(starts, i) % 8 != 0)
-}
-
-// The lowest position whose width is odd and whose start is no multiple of 8, or 0.
-fn lowest_uneven(n: u8, starts: &[u32], widths: &[u32]) -> u8
-    requires { ⌜ (n ≤ length (now starts)) × (n ≤ length (now widths)) ⌝ }
-    ensures { λ r. ⌜ r ≡ lowest (uneven (numberAt (now (starts .entry))) (numberAt (now (widths .entry)))) n ⌝ }
-{
-    let mut even = 0;
-    while even < n {
-        if is_uneven(starts, widths, even) {
-            return even + 1;
-        }
-        even += 1;
-    }
-    0
 }
 
 // Whether the parameters at indices i and j share a bit.
@@ -209,27 +153,6 @@ fn end_at(starts: &[u32], widths: &[u32], i: u8) -> u64
     places::end_bit(number_at(starts, i), number_at(widths, i))
 }
 
-// The lowest position that shares a bit with an earlier one, or 0; where there is none, also the largest end of all.
-fn sweep(n: u8, starts: &[u32], widths: &[u32]) -> Swept
-    requires { ⌜ (n ≤ length (now starts)) × (n ≤ length (now widths)) ⌝ }
-    ensures { λ r. ⌜ (r .position ≡ lowest (overlaps (numberAt (now (starts .entry))) (numberAt (now (widths .entry)))) n)
-        × (r .position ≡ 0 → r .end ≡ endTo (now (starts .entry)) (now (widths .entry)) n) ⌝ }
-{
-    let mut end = 0;
-    let mut apart = 0;
-    while apart < n {
-        if shares_earlier(starts, widths, apart) {
-            return Swept {
-                position: apart + 1,
-                end,
-            };
-        }
-        end = larger(end, end_at(starts, widths, apart));
-        apart += 1;
-    }
-    Swept { position: 0, end }
-}
-
 // Whether an end is above 14,280.
 fn is_beyond(end: u64) -> bool
     ensures { λ r. ⌜ r ≡ ltb 14280 end ⌝ }
@@ -237,19 +160,48 @@ fn is_beyond(end: u64) -> bool
     14280 < end
 }
 
-// The lowest position whose end is above 14,280, or 0.
-fn lowest_beyond(n: u8, starts: &[u32], widths: &[u32]) -> u8
-    requires { ⌜ (n ≤ length (now starts)) × (n ≤ length (now widths)) ⌝ }
-    ensures { λ r. ⌜ r ≡ lowest (beyond (numberAt (now (starts .entry))) (numberAt (now (widths .entry)))) n ⌝ }
+// Whether a rule applies at index i.
+fn applies(rule: Rule, spns: &[u32], starts: &[u32], widths: &[u32], i: u8) -> bool
+    requires { ⌜ (i < length (now spns)) × (i < length (now starts)) × (i < length (now widths)) ⌝ }
+    ensures { λ r. ⌜ r ≡ ruleAt rule (now (spns .entry)) (now (starts .entry)) (now (widths .entry)) i ⌝ }
 {
-    let mut within = 0;
-    while within < n {
-        if is_beyond(end_at(starts, widths, within)) {
-            return within + 1;
+    match rule {
+        Rule::Unknown => number_at(widths, i) == 0,
+        Rule::Repeated => is_repeated(spns, i),
+        Rule::NotAbove => is_not_above(starts, i),
+        Rule::Uneven => is_uneven(starts, widths, i),
+        Rule::Overlaps => shares_earlier(starts, widths, i),
+        Rule::Beyond => is_beyond(end_at(starts, widths, i)),
+    }
+}
+
+// The lowest position that a rule applies to, or 0.
+fn lowest_by(rule: Rule, n: u8, spns: &[u32], starts: &[u32], widths: &[u32]) -> u8
+    requires { ⌜ (n ≤ length (now spns)) × (n ≤ length (now starts)) × (n ≤ length (now widths)) ⌝ }
+    ensures { λ r. ⌜ r ≡ lowest (ruleAt rule (now (spns .entry)) (now (starts .entry)) (now (widths .entry))) n ⌝ }
+{
+    let mut passed = 0;
+    while passed < n {
+        if applies(rule, spns, starts, widths, passed) {
+            return passed + 1;
         }
-        within += 1;
+        passed += 1;
     }
     0
+}
+
+// The largest end of n parameters.
+fn largest_end(n: u8, starts: &[u32], widths: &[u32]) -> u64
+    requires { ⌜ (n ≤ length (now starts)) × (n ≤ length (now widths)) ⌝ }
+    ensures { λ r. ⌜ r ≡ endTo (now (starts .entry)) (now (widths .entry)) n ⌝ }
+{
+    let mut end = 0;
+    let mut counted = 0;
+    while counted < n {
+        end = larger(end, end_at(starts, widths, counted));
+        counted += 1;
+    }
+    end
 }
 
 // Whether the transport flag is yes with a payload of 8 bytes, or no with a longer one.
@@ -269,8 +221,36 @@ fn last_word(transport: bool, end: u64) -> Judgement
     Judgement::Usable
 }
 
-// The judgement of n parameters, rule by rule: the first rule of the list that applies, with its lowest position. No rule after it is tried. The largest end comes
-// from the search for shared bits: which position is beyond 14,280 is looked for only where it is.
+// The judgement of n parameters that are all there and known, rule by rule.
+fn of_known(n: u8, transport: bool, spns: &[u32], starts: &[u32], widths: &[u32]) -> Judgement
+    requires { ⌜ (lowest (marked (shortestOf (now spns) (now starts) (now widths)) (now widths)) n ≡ 0) × (lowest (unknown (numberAt (now widths))) n ≡ 0) ⌝ }
+    ensures { λ r. ⌜ saidOf r ≡ judgeOver n transport (inSlices (now (spns .entry)) (now (starts .entry)) (now (widths .entry))) ⌝ }
+{
+    let repeated = lowest_by(Rule::Repeated, n, spns, starts, widths);
+    if repeated != 0 {
+        return Judgement::Repeated(repeated);
+    }
+    let not_above = lowest_by(Rule::NotAbove, n, spns, starts, widths);
+    if not_above != 0 {
+        return Judgement::NotAbove(not_above);
+    }
+    let uneven = lowest_by(Rule::Uneven, n, spns, starts, widths);
+    if uneven != 0 {
+        return Judgement::Uneven(uneven);
+    }
+    let overlaps = lowest_by(Rule::Overlaps, n, spns, starts, widths);
+    if overlaps != 0 {
+        return Judgement::Overlaps(overlaps);
+    }
+    let beyond = lowest_by(Rule::Beyond, n, spns, starts, widths);
+    if beyond != 0 {
+        return Judgement::Beyond(beyond);
+    }
+    last_word(transport, largest_end(n, starts, widths))
+}
+
+// The judgement of n parameters, rule by rule: the first rule of the list that applies, with its lowest position. No rule after it is tried. What is not there or
+// not known comes first: the rules after these ask for its numbers.
 fn by_rules(n: u8, transport: bool, spns: &[u32], starts: &[u32], widths: &[u32]) -> Judgement
     ensures { λ r. ⌜ saidOf r ≡ judgeOver n transport (inSlices (now (spns .entry)) (now (starts .entry)) (now (widths .entry))) ⌝ }
 {
@@ -278,31 +258,11 @@ fn by_rules(n: u8, transport: bool, spns: &[u32], starts: &[u32], widths: &[u32]
     if missing != 0 {
         return Judgement::Missing(missing);
     }
-    let unknown = lowest_unknown(n, widths);
+    let unknown = lowest_by(Rule::Unknown, n, spns, starts, widths);
     if unknown != 0 {
         return Judgement::Unknown(unknown);
     }
-    let repeated = lowest_repeated(n, spns);
-    if repeated != 0 {
-        return Judgement::Repeated(repeated);
-    }
-    let not_above = lowest_not_above(n, starts);
-    if not_above != 0 {
-        return Judgement::NotAbove(not_above);
-    }
-    let uneven = lowest_uneven(n, starts, widths);
-    if uneven != 0 {
-        return Judgement::Uneven(uneven);
-    }
-    let swept = sweep(n, starts, widths);
-    if swept.position != 0 {
-        return Judgement::Overlaps(swept.position);
-    }
-    if is_beyond(swept.end) {
-        let beyond = lowest_beyond(n, starts, widths);
-        return Judgement::Beyond(beyond);
-    }
-    last_word(transport, swept.end)
+    of_known(n, transport, spns, starts, widths)
 }
 
 // ---- all rules in one walk
@@ -328,16 +288,29 @@ fn is_again(seen: &[u8; MARKS], spns: &[u32], i: u8) -> bool
     is_repeated(spns, i)
 }
 
-// Whether the parameter at index i does not start above the one before, or shares a bit with an earlier one, where the largest end of the earlier ones is known. What starts at or after that end does
-// neither; what starts below it may share none, in the low bits that an odd width skips.
-fn is_crossing(end: u64, starts: &[u32], widths: &[u32], i: u8) -> bool
-    requires { ⌜ (i < length (now starts)) × (i < length (now widths)) × (end ≡ endTo (now starts) (now widths) i) × Wide (now widths) i ⌝ }
+// Whether the parameter at index i does not start above the one before, or shares a bit with an earlier one, where the largest end of those before the last of the earlier ones is known.
+// Nearly always only the last ends after this start: then it alone is looked at.
+fn crosses(before: u64, starts: &[u32], widths: &[u32], i: u8) -> bool
+    requires { ⌜ (i < length (now starts)) × (i < length (now widths)) × (0 < i) × (before ≡ endTo (now starts) (now widths) (i - 1)) ⌝ }
+    ensures { λ r. ⌜ r ≡ crossing (numberAt (now (starts .entry))) (numberAt (now (widths .entry))) i ⌝ }
+{
+    if before <= number_at(starts, i) as u64 {
+        return is_not_above(starts, i) | share(starts, widths, i - 1, i);
+    }
+    is_not_above(starts, i) | shares_earlier(starts, widths, i)
+}
+
+// The same, where the largest end of all earlier ones is known too. What starts at or after it does neither; what starts below it may share no bit, in the low bits that an odd width
+// skips.
+fn is_crossing(before: u64, end: u64, starts: &[u32], widths: &[u32], i: u8) -> bool
+    requires { ⌜ (i < length (now starts)) × (i < length (now widths))
+        × (before ≡ endTo (now starts) (now widths) (i - 1)) × (end ≡ endTo (now starts) (now widths) i) × Wide (now widths) i ⌝ }
     ensures { λ r. ⌜ r ≡ crossing (numberAt (now (starts .entry))) (numberAt (now (widths .entry))) i ⌝ }
 {
     if end <= number_at(starts, i) as u64 {
         return false;
     }
-    is_not_above(starts, i) | shares_earlier(starts, widths, i)
+    crosses(before, starts, widths, i)
 }
 
 // Whether a rule applies that looks at one parameter alone: 2, 3 or 9.
@@ -349,6 +322,7 @@ fn is_broken_alone(start: u32, width: u32) -> bool
 
 // Whether any rule but 7 applies to the parameter at index i, by what the walk knows of the lower ones.
 fn is_broken(
+    before: u64,
     end: u64,
     seen: &[u8; MARKS],
     spns: &[u32],
@@ -357,7 +331,7 @@ fn is_broken(
     i: u8,
 ) -> bool
     requires { ⌜ (i < length (now spns)) × (i < length (now starts)) × (i < length (now widths))
-        × (end ≡ endTo (now starts) (now widths) i) × Wide (now widths) i × Passed (now seen) (now spns) i ⌝ }
+        × (before ≡ endTo (now starts) (now widths) (i - 1)) × (end ≡ endTo (now starts) (now widths) i) × Wide (now widths) i × Passed (now seen) (now spns) i ⌝ }
     ensures { λ r. ⌜ r ≡ broken (now (spns .entry)) (now (starts .entry)) (now (widths .entry)) i ⌝ }
 {
     if is_broken_alone(number_at(starts, i), number_at(widths, i)) {
@@ -366,30 +340,38 @@ fn is_broken(
     if is_again(seen, spns, i) {
         return true;
     }
-    is_crossing(end, starts, widths, i)
+    is_crossing(before, end, starts, widths, i)
+}
+
+// What the walk found: the lowest position that it stopped at, or 0, and the largest end of those passed.
+struct Walked {
+    position: u8,
+    end: u64,
 }
 
 // The lowest position that any rule but 7 applies to, or 0; where there is none, also the largest end of all, which says whether 7 applies. Most maps are usable: of them this is all that is looked at.
-fn walk(n: u8, spns: &[u32], starts: &[u32], widths: &[u32]) -> Swept
+fn walk(n: u8, spns: &[u32], starts: &[u32], widths: &[u32]) -> Walked
     requires { ⌜ (n ≤ length (now spns)) × (n ≤ length (now starts)) × (n ≤ length (now widths)) ⌝ }
     ensures { λ r. ⌜ (r .position ≡ lowest (broken (now (spns .entry)) (now (starts .entry)) (now (widths .entry))) n)
         × (r .position ≡ 0 → r .end ≡ endTo (now (starts .entry)) (now (widths .entry)) n) ⌝ }
 {
     let mut seen = [0u8; MARKS];
+    let mut before = 0; // the largest end of those before the last one passed
     let mut end = 0;
     let mut clear = 0;
     while clear < n {
-        if is_broken(end, &seen, spns, starts, widths, clear) {
-            return Swept {
+        if is_broken(before, end, &seen, spns, starts, widths, clear) {
+            return Walked {
                 position: clear + 1,
                 end,
             };
         }
         seen[mark_of(number_at(spns, clear))] = 1;
+        before = end;
         end = larger(end, end_at(starts, widths, clear));
         clear += 1;
     }
-    Swept { position: 0, end }
+    Walked { position: 0, end }
 }
 
 // The judgement of n parameters: the first rule of the list that applies, with its lowest position. One walk says whether any applies; only where one does, or

@@ -2,7 +2,7 @@
 // their end is 0, and one stored there is lost, so that none asks for a length.
 ghost use mathlib.Core.Path.{_≡_};
 ghost use mathlib.Core.Bool.{cond};
-ghost use Prim.Native.Nat.{_≤_};
+ghost use Prim.Native.Nat.{_-_, _≤_};
 ghost use lib.ListN.{length, getD, set, replicate};
 ghost use Rattle.answers.specs.Answers.{plain, outcome};
 ghost use Rattle.keyrow.specs.Row.{keyOf, keyNumber, oneIf, formNumber, cellOf, wordsAre};
@@ -100,24 +100,28 @@ pub fn with_edition(form: u64, edition: u32) -> u64
     bare
 }
 
-// The SPN of a cell, 0 where nothing stands there.
-pub fn spn_of(cell: u64) -> u32
-    ensures { λ r. ⌜ r ≡ spnThere (placeOf cell) ⌝ }
+// SPN and start of a cell as one number, 0 where nothing stands there.
+fn held_in(cell: u64) -> u64
+    ensures { λ r. ⌜ r ≡ cell - 1 ⌝ }
 {
     if cell == 0 {
         return 0;
     }
-    ((cell - 1) % 4294967296) as u32
+    cell - 1
+}
+
+// The SPN of a cell, 0 where nothing stands there.
+pub fn spn_of(cell: u64) -> u32
+    ensures { λ r. ⌜ r ≡ spnThere (placeOf cell) ⌝ }
+{
+    (held_in(cell) % 4294967296) as u32
 }
 
 // The start of a cell, 0 where nothing stands there.
 pub fn start_of(cell: u64) -> u32
     ensures { λ r. ⌜ r ≡ startThere (placeOf cell) ⌝ }
 {
-    if cell == 0 {
-        return 0;
-    }
-    ((cell - 1) / 4294967296) as u32
+    (held_in(cell) / 4294967296) as u32
 }
 
 // ---- whose row it is

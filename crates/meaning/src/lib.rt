@@ -8,19 +8,21 @@ ghost use Rattle.meaning.specs.Meaning.{slotIn, slotOf, meaningOf, scale
 use dictionary::Found;
 use slots::Slot;
 
-// What an SPN's numbers are; all 0 where the dictionary does not have it. Resolution and offset are in thousandths of its unit.
+// What an SPN's numbers are; all 0 where the dictionary does not have it. Resolution and offset are in thousandths of its unit. C gets it as it is.
+#[repr(C)]
 pub struct Meaning {
-    pub offset: i64,
-    pub resolution: u32,
-    pub width: u32,
-    pub kind: u8,
+    pub offset: i64, // 0 or below it
+    pub resolution: u32, // what one count more adds
+    pub width: u32, // in bits
+    pub kind: u32, // states has the list
 }
 
-// A number in thousandths of its unit, and 0 where its state is not 0 (valid) or its kind is 0 (the dictionary does not have the SPN).
+// A number in thousandths of its unit, and 0 where its state is not 0 (valid) or its kind is 0 (the dictionary does not have the SPN). C gets it as it is.
+#[repr(C)]
 pub struct Scaled {
     pub value: i64,
-    pub kind: u8,
-    pub state: u8,
+    pub kind: u32,
+    pub state: u32, // states has the list
 }
 
 // The slot of the row that a look-up found; zeros where it found none.
@@ -57,7 +59,7 @@ pub fn meaning_of(spn: u32) -> Meaning
         offset,
         resolution: slot.resolution,
         width: entry.width,
-        kind,
+        kind: kind as u32,
     }
 }
 
@@ -71,8 +73,8 @@ pub fn scaled_of(spn: u32, number: u32) -> Scaled
     if state != states::VALID {
         return Scaled {
             value: 0,
-            kind,
-            state,
+            kind: kind as u32,
+            state: state as u32,
         };
     }
     let found = entry.found;
@@ -81,5 +83,9 @@ pub fn scaled_of(spn: u32, number: u32) -> Scaled
         (number as u64) * (slot.resolution as u64),
         slot.below as u64,
     );
-    Scaled { value, kind, state }
+    Scaled {
+        value,
+        kind: kind as u32,
+        state: state as u32,
+    }
 }

@@ -21,8 +21,8 @@ fn line(spn: u32, number: u32) {
     io::print_decimal(STDOUT_FILENO, meaning.width as u64);
     more(meaning.resolution);
     signed(meaning.offset);
-    more(meaning.kind as u32);
-    more(scaled.state as u32);
+    more(meaning.kind);
+    more(scaled.state);
     signed(scaled.value);
     end();
 }

@@ -46,14 +46,14 @@ pub enum Decoded {
 
 // The fields of the eight bytes, as they stand on the wire.
 pub struct Wire {
-    pub pgn: u32,
-    pub spn: u32,
-    pub position: u8,
-    pub n: u8,
-    pub proprietary: u8,
+    pub pgn: u32, // bytes 1 to 3
+    pub spn: u32, // bytes 4 to 6, 19 bits
+    pub position: u8, // 5 bits
+    pub n: u8, // 5 bits
+    pub proprietary: u8, // 1 bit, and so the next two
     pub transport: u8,
     pub first: u8,
-    pub start: u8,
+    pub start: u8, // byte 8
 }
 
 // The fields of the eight bytes.

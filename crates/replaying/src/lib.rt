@@ -20,16 +20,15 @@ use trace::SIZE;
 // So many bytes hold any text of a replay (proofs/Widths.antt).
 pub const PAGE: usize = 2304;
 
-// How many records there were; frames, slots and commands among them, and those of the commands that were refused; and records that were none of these. Each modulo 2^64.
-// (`repr(C)`: firmware hands these two to C as they are.)
+// What is counted of a trace's records, each modulo 2^64. (`repr(C)`: firmware hands these two to C as they are.)
 #[repr(C)]
 pub struct Counts {
-    pub events: u64,
+    pub events: u64, // all records
     pub frames: u64,
     pub slots: u64,
     pub commands: u64,
-    pub refused: u64,
-    pub other: u64,
+    pub refused: u64, // those of the commands that were refused
+    pub other: u64, // records that are none of these
 }
 
 // What is kept from chunk to chunk: the counts, and the first `left` bytes of a record that is not whole yet, with 0 behind them.

@@ -9,148 +9,148 @@ pub const COUNT: usize = 140;
 
 pub const COUNT_2004: usize = 12;
 
-// Rows of SPN and width.
+// Rows of SPN and width, with the SPN's name.
 const ROWS: [[u16; 2]; 140] = [
-    [1488, 16],
-    [1489, 8],
-    [1490, 16],
-    [1497, 2],
-    [1498, 2],
-    [1499, 2],
-    [1505, 8],
-    [1506, 8],
-    [1508, 8],
-    [1509, 8],
-    [1510, 8],
-    [1511, 8],
-    [1512, 8],
-    [1513, 8],
-    [1514, 8],
-    [1517, 8],
-    [1518, 8],
-    [1519, 2],
-    [1520, 2],
-    [1521, 2],
-    [1522, 2],
-    [1523, 2],
-    [1524, 2],
-    [1525, 2],
-    [1526, 2],
-    [1527, 2],
-    [1528, 2],
-    [1529, 2],
-    [1530, 2],
-    [1531, 2],
-    [1532, 2],
-    [1534, 16],
-    [1535, 16],
-    [1536, 16],
-    [1537, 8],
-    [1538, 8],
-    [1539, 8],
-    [1540, 8],
-    [1541, 16],
-    [1554, 16],
-    [2989, 16],
-    [2991, 8],
-    [2992, 2],
-    [2993, 2],
-    [2994, 2],
-    [2995, 2],
-    [2996, 2],
-    [2997, 2],
-    [2998, 2],
-    [2999, 2],
-    [3000, 2],
-    [3001, 2],
-    [3002, 2],
-    [3003, 2],
-    [3004, 2],
-    [3005, 2],
-    [3006, 2],
-    [3007, 2],
-    [3008, 2],
-    [3009, 2],
-    [3010, 2],
-    [3011, 2],
-    [3012, 2],
-    [3013, 2],
-    [3015, 2],
-    [3016, 2],
-    [3017, 2],
-    [3018, 2],
-    [3019, 2],
-    [3020, 2],
-    [3021, 2],
-    [3022, 2],
-    [3023, 2],
-    [3024, 2],
-    [3025, 2],
-    [3032, 8],
-    [3033, 8],
-    [3042, 16],
-    [3088, 8],
-    [3089, 8],
-    [3090, 8],
-    [3091, 8],
-    [3092, 16],
-    [3093, 16],
-    [3096, 8],
-    [3097, 8],
-    [3098, 8],
-    [3099, 8],
-    [3102, 2],
-    [3103, 2],
-    [3104, 2],
-    [3105, 2],
-    [3106, 2],
-    [3107, 2],
-    [3108, 2],
-    [3109, 2],
-    [3110, 2],
-    [3111, 2],
-    [3112, 2],
-    [3113, 2],
-    [3114, 2],
-    [3115, 2],
-    [3116, 2],
-    [3117, 2],
-    [3118, 2],
-    [3119, 2],
-    [3120, 2],
-    [3121, 2],
-    [3122, 8],
-    [3123, 8],
-    [3124, 8],
-    [3125, 8],
-    [3126, 8],
-    [3127, 8],
-    [3128, 8],
-    [3129, 8],
-    [3130, 16],
-    [3131, 16],
-    [3132, 8],
-    [3133, 16],
-    [3134, 16],
-    [3135, 8],
-    [3136, 8],
-    [3137, 8],
-    [3138, 8],
-    [3139, 16],
-    [3140, 16],
-    [3146, 24],
-    [3147, 19],
-    [3148, 5],
-    [3149, 1],
-    [3150, 1],
-    [3151, 1],
-    [3152, 5],
-    [3153, 8],
-    [3154, 19],
-    [3155, 8],
-    [3329, 8],
-    [3330, 24],
-    [3333, 16],
+    [1488, 16], // Thresher Speed
+    [1489, 8], // Cleaning Fan Speed
+    [1490, 16], // Header Backshaft Speed
+    [1497, 2], // Unloading Auger Drive
+    [1498, 2], // Header Drive
+    [1499, 2], // Separator Drive
+    [1505, 8], // Automatic Header Sensitivity Adjustment
+    [1506, 8], // Automatic Header Rate Adjustment Input
+    [1508, 8], // Hydraulic Reservoir Temperature
+    [1509, 8], // Thresher Separator Hydraulic Drive 1 Temperature
+    [1510, 8], // Chopper Vane Angle Adjustment
+    [1511, 8], // Right side Cleaning Shoe Relative Grain Loss
+    [1512, 8], // Left side Cleaning Shoe Relative Grain Loss
+    [1513, 8], // Right side Separator Relative Grain Loss
+    [1514, 8], // Left side Separator Relative Grain Loss
+    [1517, 8], // Header Lift Cylinder Pressure
+    [1518, 8], // Header Sensor Identification
+    [1519, 2], // Header Raise Valve Drive
+    [1520, 2], // Header Lower Valve Drive
+    [1521, 2], // Header Tilt Left Valve Drive
+    [1522, 2], // Header Tilt Right Valve Drive
+    [1523, 2], // Header Lift Cylinder Pressure Diverted Valve Drive
+    [1524, 2], // Reel Position Forward Actuator
+    [1525, 2], // Reel Position Aft Actuator
+    [1526, 2], // Reel Position Raise Actuator
+    [1527, 2], // Reel Position Lower Actuator
+    [1528, 2], // Header Drop Rate Control Valve Drive
+    [1529, 2], // Header Lift Cylinder Accumulator Shutoff Valve Drive
+    [1530, 2], // Unloading auger flow bypass valve drive
+    [1531, 2], // Reel Drive Motor Speed Increase Valve Drive
+    [1532, 2], // Reel Drive Motor Speed Decrease Valve Drive
+    [1534, 16], // Header Leftmost Height
+    [1535, 16], // Header Rightmost Height
+    [1536, 16], // Header Center Height
+    [1537, 8], // Reel Fore-Aft Position
+    [1538, 8], // Reel Up-Down Position
+    [1539, 8], // Header Lateral Tilt Angle
+    [1540, 8], // Reel Speed Actuator Position
+    [1541, 16], // Reel Speed
+    [1554, 16], // Clean Grain Elevator Speed
+    [2989, 16], // Combine separator speed
+    [2991, 8], // Tailings volume
+    [2992, 2], // Move reel forward
+    [2993, 2], // Move reel aft
+    [2994, 2], // Reel raise
+    [2995, 2], // Reel lower
+    [2996, 2], // Header raise slow
+    [2997, 2], // Header lower slow
+    [2998, 2], // Header raise fast
+    [2999, 2], // Header lower fast
+    [3000, 2], // Tilt header left
+    [3001, 2], // Tilt header right
+    [3002, 2], // Header fold
+    [3003, 2], // Header unfold
+    [3004, 2], // Draper speed increment
+    [3005, 2], // Draper speed decrement
+    [3006, 2], // Reel speed increment
+    [3007, 2], // Reel speed decrement
+    [3008, 2], // Threshing clearance increment
+    [3009, 2], // Threshing clearance decrement
+    [3010, 2], // Threshing speed increment
+    [3011, 2], // Threshing speed decrement
+    [3012, 2], // Product fan speed increment
+    [3013, 2], // Product fan speed decrement
+    [3015, 2], // Implement fold down
+    [3016, 2], // Implement fold up
+    [3017, 2], // RH header raise
+    [3018, 2], // LH header raise
+    [3019, 2], // Product fan engage mode
+    [3020, 2], // Augers engage mode
+    [3021, 2], // Product basket fill state
+    [3022, 2], // Augers enable mode
+    [3023, 2], // Header height control mode
+    [3024, 2], // Header remote tether control mode
+    [3025, 2], // Lubrication control mode
+    [3032, 8], // Right Brake Pedal Position
+    [3033, 8], // Left Brake Pedal Position
+    [3042, 16], // Requested Wheel Speed
+    [3088, 8], // Header height vertical rate control
+    [3089, 8], // Header height sensitivity control
+    [3090, 8], // Header height setpoint change
+    [3091, 8], // Header height setpoint change sequence number
+    [3092, 16], // Header platform height
+    [3093, 16], // Header platform height maximum
+    [3096, 8], // Header float pressure
+    [3097, 8], // Header float pressure maximum
+    [3098, 8], // Header position percent
+    [3099, 8], // Header position percent maximum
+    [3102, 2], // Unloading Auger swing out
+    [3103, 2], // Unloading auger swing in
+    [3104, 2], // Unloading auger swing out-auto
+    [3105, 2], // Unloading auger swing in-auto
+    [3106, 2], // Side hill left tilt
+    [3107, 2], // Side hill right tilt
+    [3108, 2], // Spreader speed increment
+    [3109, 2], // Spreader speed decrement
+    [3110, 2], // Precleaner open
+    [3111, 2], // Precleaner close
+    [3112, 2], // Open chaffer
+    [3113, 2], // Close chaffer
+    [3114, 2], // Open sieve
+    [3115, 2], // Close sieve
+    [3116, 2], // Move chopper vane left
+    [3117, 2], // Move chopper vane right
+    [3118, 2], // Quick stop switch
+    [3119, 2], // Unloading auger engage/disengage
+    [3120, 2], // Unloading auger fold
+    [3121, 2], // Unloading auger unfold
+    [3122, 8], // Max allowable cleaning shoe travel
+    [3123, 8], // Right hand header height setpoint
+    [3124, 8], // Left hand header height setpoint
+    [3125, 8], // Left hand header height
+    [3126, 8], // Right hand header height
+    [3127, 8], // Header control response rate setpoint
+    [3128, 8], // Header control response rate maximum setpoint
+    [3129, 8], // Header control response rate minimum setpoint
+    [3130, 16], // Product system tank water level
+    [3131, 16], // Product fan speed
+    [3132, 8], // Product system manifold pressure
+    [3133, 16], // Product system pump discharge pressure
+    [3134, 16], // Product fan hours
+    [3135, 8], // Right hand header height max setpoint
+    [3136, 8], // Right hand header height min setpoint
+    [3137, 8], // Left hand header height min setpoint
+    [3138, 8], // Left hand header height max setpoint
+    [3139, 16], // Right hand header unit speed
+    [3140, 16], // Left hand header unit speed
+    [3146, 24], // PGN of Message Being Configured
+    [3147, 19], // Parameter Being Included
+    [3148, 5], // Position of Configured Parameter
+    [3149, 1], // Message Will Be Used Proprietarily
+    [3150, 1], // Message Will Use Transport Protocol
+    [3151, 1], // First Parameter Only Being Identified
+    [3152, 5], // Number of Parameters Included
+    [3153, 8], // Starting Bit for this Parameter
+    [3154, 19], // Parameter to be Located
+    [3155, 8], // Parameter Locate Command
+    [3329, 8], // Message Selection Control
+    [3330, 24], // PGN of Configurable Message Desired
+    [3333, 16], // Feederhouse Height
 ];
 
 // All rows. The compiler lays a const out anew wherever code names it, so it is named here alone, and a call that looks several SPNs up asks for the
@@ -161,20 +161,20 @@ pub fn all() -> [[u16; 2]; COUNT]
     ROWS
 }
 
-// Rows of SPN and width of the edition of 2004.
+// Rows of SPN and width of the edition of 2004, with the place and the heading in 000.
 const ROWS_2004: [[u16; 2]; 12] = [
-    [3146, 24],
-    [3147, 19],
-    [3148, 5],
-    [3149, 1],
-    [3150, 1],
-    [3151, 1],
-    [3152, 5],
-    [3153, 8],
-    [3154, 19],
-    [3155, 8],
-    [3329, 8],
-    [3330, 24],
+    [3146, 24], // 5.3.1.1 PGN of Message Being Configured
+    [3147, 19], // 5.3.1.2 Parameter Being Included
+    [3148, 5], // 5.3.1.3 Position of Configured Parameter
+    [3149, 1], // 5.3.1.5 Message Will Be Used Proprietarily
+    [3150, 1], // 5.3.1.6 Message Will Use Transport Protocol
+    [3151, 1], // 5.3.1.7 First Parameter Only Being Identified
+    [3152, 5], // 5.3.1.4 Number of Parameters Included
+    [3153, 8], // 5.3.1.8 Starting Bit for this Parameter
+    [3154, 19], // 5.3.2.1 Parameter to be Located
+    [3155, 8], // 5.3.2.2 Parameter Locate Command
+    [3329, 8], // 5.3.3.1 Message Selection Control
+    [3330, 24], // 5.3.3.2 PGN of Configurable Message Desired
 ];
 
 // All rows of the edition of 2004.

@@ -36,16 +36,16 @@ pub type Bytes = [u8; BYTES];
 
 pub type Payload = [u8; MOST];
 
-// A session's words: its holder, the number of the packet that comes next, the size and the PGN of the payload.
+// A session's words.
 const ROW_WORDS: usize = 4;
 
-const HOLDER: usize = 0;
+const HOLDER: usize = 0; // which pair of addresses has it
 
-const NEXT: usize = 1;
+const NEXT: usize = 1; // the number of the packet that comes next
 
-const SIZE: usize = 2;
+const SIZE: usize = 2; // how many bytes the payload has
 
-const PGN: usize = 3;
+const PGN: usize = 3; // and its PGN
 
 // The holder of a row that no pair has.
 const NOBODY: u64 = 0;

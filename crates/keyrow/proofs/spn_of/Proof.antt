@@ -1,14 +1,11 @@
--- `spn_of`: the definition's two cases. Assumes nothing.
+-- `spn_of`: of what the cell holds. Assumes nothing.
 use borrow.Author.Needs.{needs}
-use borrow.Author.Tests.{eq-eqb, ne-eqb}
+use Rattle.keyrow.proofs.View.{spn-there}
 use Rattle.keyrow.proofs.spn_of.Statement.{statement}
 use Rattle.keyrow.proofs.spn_of.Tie as tie
 
 returns : tie.Need-returns
-returns c = simp (eq-eqb _ _ (c .if1 .taken))
-
-returns-2 : tie.Need-returns-2
-returns-2 c = simp (ne-eqb _ _ (c .if1 .left))
+returns c = rw (c .held-in .ensures) (spn-there (c .before .args .cell))
 
 pub spn-of-spec : {M : Type 1} → statement M
-spn-of-spec = tie.close (tie.spec returns (λ c. search needs) (λ c. search needs) returns-2)
+spn-of-spec = tie.close (tie.spec (λ c κs. search needs) (λ c. search needs) returns)

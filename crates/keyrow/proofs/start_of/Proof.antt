@@ -1,14 +1,11 @@
--- `start_of`: the definition's two cases. Assumes nothing.
+-- `start_of`: of what the cell holds. Assumes nothing.
 use borrow.Author.Needs.{needs}
-use borrow.Author.Tests.{eq-eqb, ne-eqb}
+use Rattle.keyrow.proofs.View.{start-there}
 use Rattle.keyrow.proofs.start_of.Statement.{statement}
 use Rattle.keyrow.proofs.start_of.Tie as tie
 
 returns : tie.Need-returns
-returns c = simp (eq-eqb _ _ (c .if1 .taken))
-
-returns-2 : tie.Need-returns-2
-returns-2 c = simp (ne-eqb _ _ (c .if1 .left))
+returns c = rw (c .held-in .ensures) (start-there (c .before .args .cell))
 
 pub start-of-spec : {M : Type 1} → statement M
-start-of-spec = tie.close (tie.spec returns (λ c. search needs) (λ c. search needs) returns-2)
+start-of-spec = tie.close (tie.spec (λ c κs. search needs) (λ c. search needs) returns)

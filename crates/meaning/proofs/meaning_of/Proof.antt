@@ -19,4 +19,4 @@ returns c =
     meaning-given _ _ _ _ _ (e .ensures .0) (e .ensures .1) (c .kind-of .ensures) (c .before .before .before .slot-in .ensures) _ (c .before .less .ensures)
 
 pub meaning-of-spec : {M : Type 1} → statement M
-meaning-of-spec = tie.close (tie.spec (λ c κs. search needs) (λ c κs. search needs) (λ c. search needs) less-requires (λ c κs. search needs) returns)
+meaning-of-spec = tie.close (tie.spec (λ c κs. search needs) (λ c κs. search needs) (λ c. search needs) less-requires (λ c κs. search needs) (λ c. search needs) returns)

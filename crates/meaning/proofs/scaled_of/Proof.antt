@@ -38,5 +38,5 @@ returns-2 c =
 pub scaled-of-spec : {M : Type 1} → statement M
 scaled-of-spec =
     tie.close
-    (tie.spec (λ c κs. search needs) (λ c κs. search needs) (λ c κs. search needs) returns (λ c κs. search needs) (λ c. search needs) mul-less (λ c. search needs)
-    less-requires returns-2)
+    (tie.spec (λ c κs. search needs) (λ c κs. search needs) (λ c κs. search needs) (λ c. search needs) (λ c. search needs) returns (λ c κs. search needs) (λ c. search needs) mul-less
+    (λ c. search needs) less-requires (λ c. search needs) (λ c. search needs) returns-2)
