@@ -2,20 +2,21 @@
 -- nothing.
 use Prim.Native.Nat.{ℕ, zero, suc, _+_, _%_, _≤_, _<_}
 use mathlib.Core.Path.{_≡_, refl, sym, ap, _∙_}
-use mathlib.Core.Bool.{Bool, false}
+use mathlib.Core.Bool.{Bool, false, not, _&&_, _||_}
 use mathlib.Core.List.{List, []}
 use native.Mathlib.Decide.{decLt, ℕ-discrete}
 use native.Mathlib.Omega.{arith}
-use borrow.Author.Tests.{lt-leb, le-ltb, ne-eqb, eqb-false}
+use borrow.Author.Tests.{lt-leb, lt-ltb, le-ltb, ne-eqb, eqb-false}
 use lib.Dec.{eqb}
 use lib.ListN.{length, getD, set}
 use lib.Seq.{getD-set-same, getD-set-other}
 use Rattle.words.specs.First.{any, lowest}
+use Rattle.words.proofs.Tests.{test}
 use Rattle.words.proofs.Lowest.{None, neither, any-none, any-more, lowest-none, lowest-each}
-use Rattle.places.specs.Place.{sharesBit, endIn, endTo}
+use Rattle.places.specs.Place.{odd, sharesBit, endIn, endTo}
 use Rattle.places.proofs.Place.{shares-after, end-runs, end-le, clear-after}
 use Rattle.judge.specs.Judge.{mark, numberAt, shortest, marked, unknown, repeated, notAbove, uneven, overlaps, beyond}
-use Rattle.judge.specs.Walk.{Wide, Passed, crossing, broken}
+use Rattle.judge.specs.Walk.{Wide, Passed, brokenBy, crossing, broken}
 use Rattle.judge.proofs.Rules.{skip}
 use Rattle.judge.proofs.Slices.{plainly, Left}
 
@@ -54,6 +55,18 @@ module _ (starts widths : List ℕ) where
     where
       none : (k : ℕ) → k < j → sharesWith i k ≡ false
       none k m = shares-after (numberAt starts k) (numberAt widths k) (numberAt starts i) (numberAt widths i) (omega (arith, l, end-le starts widths k j m))
+
+-- ---- the rules that look at one parameter alone
+module _ (s w : ℕ) where
+  -- a narrow one is no odd one, and no mark
+  pub broken-narrow : w ≤ 8 → eqb w 0 ≡ brokenBy s w
+  unfolding odd
+  broken-narrow l = test (eqb w 0) (λ e. rw e) (λ n. rw (n, ne-eqb w mark (λ e. omega (arith, e)), le-ltb 8 w l))
+
+  -- a wide one has a bit
+  pub broken-wide : 8 < w → (eqb w mark || (not (eqb (w % 8) 0) && not (eqb (s % 8) 0))) ≡ brokenBy s w
+  unfolding odd
+  broken-wide l = rw (ne-eqb w 0 (λ e. omega (arith, e, l)), lt-ltb 8 w l)
 
 -- ---- the marks
 module _ (seen spns : List ℕ) (i : ℕ) (passed : Passed seen spns i) where

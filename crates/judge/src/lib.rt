@@ -317,7 +317,10 @@ fn is_crossing(before: u64, end: u64, starts: &[u32], widths: &[u32], i: u8) -> 
 fn is_broken_alone(start: u32, width: u32) -> bool
     ensures { λ r. ⌜ r ≡ brokenBy start width ⌝ }
 {
-    (width == 0) | (width == MISSING) | (places::is_odd(width) & (start % 8 != 0))
+    if width <= 8 { // most are: no odd one, and no mark
+        return width == 0;
+    }
+    (width == MISSING) | ((width % 8 != 0) & (start % 8 != 0))
 }
 
 // Whether any rule but 7 applies to the parameter at index i, by what the walk knows of the lower ones.

@@ -11,8 +11,8 @@ use lib.ListN.{length}
 use lib.Dec.{leb}
 use borrow.Author.Tests.{le-leb, leb-true}
 use Rattle.words.proofs.Tests.{test, never}
-use Rattle.places.specs.Place.{skipped, place, endOf}
-use Rattle.places.proofs.Place.{whole, left, by-runs, low-run, left-run, one-run, end-runs}
+use Rattle.places.specs.Place.{odd, skipped, place, endOf}
+use Rattle.places.proofs.Place.{whole, left, by-runs, low-run, left-run, one-run, end-runs, even-skips}
 use Rattle.bits.specs.Bits.{bit, bitAt, fromBits, liesIn, readNumber, numberIn, runAt}
 use Rattle.bits.proofs.Bits.{bit-lt, bit-shr, bitAt-lt, from-lt, bit-from, from-same, from-of, from-add}
 use Rattle.bits.proofs.Number.{lies, lies-in}
@@ -71,6 +71,10 @@ there s w e =
     let (a, b) = and-eq-true-iff (leb 1 w && leb w 32) (leb (endOf s w) 64) .0 e in
     let (c, d) = and-eq-true-iff (leb 1 w) (leb w 32) .0 a in
     (leb-true 1 w c, leb-true w 32 d, leb-true _ 64 b)
+
+-- the end of one that skips no bit
+pub even-end : (s w : ℕ) → odd w ≡ false → endOf s w ≡ s + w
+even-end s w e = omega (arith, end-runs s w, even-skips w e)
 
 -- what lies in eight bytes, and does not lie there with a bit, has none
 pub without : (s w : ℕ) → liesThere s w ≡ false → liesIn 8 s w ≡ true → w ≡ 0

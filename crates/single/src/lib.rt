@@ -1,7 +1,7 @@
 // A payload of one frame: its eight bytes as one number, out of which a parameter's number is cut by a shift and a mask, and into which it is laid by them.
 // What comes out is what `bits` reads from the bytes, and what is laid is what `bits` lays into them.
 ghost use mathlib.Core.Path.{_≡_};
-ghost use mathlib.Core.Bool.{true, cond};
+ghost use mathlib.Core.Bool.{true, false, cond};
 ghost use Prim.Native.Nat.{ℕ, _+_, _-_, _^_, _≤_, _<_};
 ghost use lib.Dec.{eqb};
 ghost use lib.ListN.{length};
@@ -61,15 +61,34 @@ pub fn lies(start: u32, width: u32) -> bool
     (1 <= width) & (width <= 32) & (places::end_bit(start, width) <= 64)
 }
 
-// The number of a parameter, out of the eight bytes as one number; 0 where it does not lie in them.
-pub fn number_in(word: u64, start: u32, width: u32) -> u32
+// The same of one whose width is not odd, which skips no bit.
+fn run_lies(start: u32, width: u32) -> bool
+    requires { ⌜ odd width ≡ false ⌝ }
+    ensures { λ r. ⌜ r ≡ liesThere start width ⌝ }
+{
+    (1 <= width) & (width <= 32) & (start as u64 + width as u64 <= 64)
+}
+
+// The number of a parameter of an odd width, 0 where it does not lie in the eight bytes.
+fn odd_in(word: u64, start: u32, width: u32) -> u32
+    requires { ⌜ odd width ≡ true ⌝ }
     ensures { λ r. ⌜ r ≡ cutFrom word start width ⌝ }
 {
     if !lies(start, width) {
         return 0;
     }
+    cut_odd(word, start, width)
+}
+
+// The number of a parameter, out of the eight bytes as one number; 0 where it does not lie in them. Few widths are odd: the others are asked for no bits that they skip.
+pub fn number_in(word: u64, start: u32, width: u32) -> u32
+    ensures { λ r. ⌜ r ≡ cutFrom word start width ⌝ }
+{
     if places::is_odd(width) {
-        return cut_odd(word, start, width);
+        return odd_in(word, start, width);
+    }
+    if !run_lies(start, width) {
+        return 0;
     }
     run_in(word, start, width)
 }
