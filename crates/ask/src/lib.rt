@@ -187,16 +187,8 @@ pub fn judge(t: &Table, source: u8, destination: u8, k: u8) -> Answer
 {
     let mut spns = [0u32; POSITIONS];
     let mut starts = [0u32; POSITIONS];
-    let mut widths = [0u32; POSITIONS];
-    let map = open::open(
-        t,
-        source,
-        destination,
-        k,
-        &mut spns,
-        &mut starts,
-        &mut widths,
-    );
+    let mut bits = [0u32; POSITIONS]; // the widths
+    let map = open::open(t, source, destination, k, &mut spns, &mut starts, &mut bits);
     map.answer
 }
 
@@ -255,16 +247,8 @@ pub fn find(t: &Table, source: u8, destination: u8, k: u8, spn: u32) -> Found
 {
     let mut spns = [0u32; POSITIONS];
     let mut starts = [0u32; POSITIONS];
-    let mut widths = [0u32; POSITIONS];
-    let map = open::open(
-        t,
-        source,
-        destination,
-        k,
-        &mut spns,
-        &mut starts,
-        &mut widths,
-    );
+    let mut bits = [0u32; POSITIONS]; // the widths
+    let map = open::open(t, source, destination, k, &mut spns, &mut starts, &mut bits);
     let answer = ready(map.answer);
     if answer.number != 0 { // 11 or 12, before 18
         return refused(answer);
@@ -278,7 +262,7 @@ pub fn find(t: &Table, source: u8, destination: u8, k: u8, spn: u32) -> Found
         answer,
         position,
         start: starts[i],
-        width: widths[i],
+        width: bits[i],
     }
 }
 

@@ -40,8 +40,7 @@ same-located a b e =
 -- one parameter at a position, one struct
 pub same-standing : (a b : Placed) → standingTo a ≡ standingTo b → a ≡ b
 same-standing a b e =
-    let t = same-told (a .told) (b .told) (ap (λ (p : Standing). p .answer) e) in
-    λ i. record { told = t i; spn = e i .spn; start = e i .start; width = e i .width }
+    λ i. record { told = same-told (a .told) (b .told) (ap (λ (p : Standing). p .answer) e) i; spn = e i .spn; start = e i .start; width = e i .width }
 
 -- one line of a report, one struct
 pub same-line : (a b : Counted) → lineTo a ≡ lineTo b → a ≡ b

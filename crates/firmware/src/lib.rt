@@ -78,7 +78,7 @@ fn in_c(a: Answer) -> Told
 // What finding gives; position, start and width are 0 on a refusal.
 #[repr(C)]
 pub struct Located {
-    pub told: Told,
+    pub told: Told, // 11, 12, 18 or 0
     pub position: u32, // from 1
     pub start: u32, // its first payload bit, from 0
     pub width: u32, // in bits
@@ -99,7 +99,7 @@ fn found_in_c(found: Found) -> Located
 // The parameter at a position; all 0 on a refusal, and the width 0 where the dictionary does not have the SPN.
 #[repr(C)]
 pub struct Placed {
-    pub told: Told,
+    pub told: Told, // 11, 18 or 0
     pub spn: u32,
     pub start: u32, // as of what finding gives
     pub width: u32,
@@ -120,7 +120,7 @@ fn placed_in_c(parameter: Parameter) -> Placed
 // A row of an image: its key and edition, and where its body begins and how long it is; all 0 on a refusal.
 #[repr(C)]
 pub struct Row {
-    pub told: Told,
+    pub told: Told, // 21, 22 or 0
     pub offset: usize, // of the body in the image
     pub length: usize, // of the body in bytes
     pub source: u32,
@@ -197,7 +197,7 @@ fn answered_in_c(offered: Offered) -> Answered
 // What is counted of a pair, and how many of its frames wait; all 0 on a refusal.
 #[repr(C)]
 pub struct Pair {
-    pub told: Told,
+    pub told: Told, // 15 or 0
     pub counters: Counters,
     pub waiting: u64, // queued less sent
 }
@@ -217,9 +217,9 @@ fn pair_in_c(standing: Standing) -> Pair
 // What the report of a hire says of a position of a key; all 0 on a refusal.
 #[repr(C)]
 pub struct Counted {
-    pub told: Told,
-    pub cell: Cell,
-    pub spn: u32,
+    pub told: Told, // 11, 12, 25, 18 or 0
+    pub cell: Cell, // what was counted of its numbers
+    pub spn: u32, // the parameter that stands there
 }
 
 // A line of the report, as C gets it.
