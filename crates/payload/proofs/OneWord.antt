@@ -1,12 +1,12 @@
 -- A payload of eight bytes packed and read as one number. Assumes nothing.
-use mathlib.Core.Path.{_≡_, sym, ap, _∙_}
+use mathlib.Core.Path.{_≡_, refl, sym, ap, _∙_}
 use mathlib.Core.Bool.{Bool, true, false, not, _&&_, _||_, and-eq-true-iff}
 use mathlib.Core.List.{List, _++_}
 use Prim.Native.Nat.{ℕ, zero, suc, _+_, _*_, _/_, _%_, _^_, _≤_, _<_}
 use native.Mathlib.Numerals.{add-one}
 use native.Mathlib.Omega.{arith}
-use borrow.Author.Tests.{not-false, eqb-true, leb-true, eq-eqb, le-ltb}
-use lib.Dec.{eqb, leb}
+use borrow.Author.Tests.{not-true, not-false, eqb-true, leb-true, ltb-false, eq-eqb, le-ltb}
+use lib.Dec.{eqb, leb, ltb}
 use lib.ListN.{length, getD, drop}
 use lib.Seq.{ext-getD}
 use Rattle.words.specs.Lists.{tabulate}
@@ -17,8 +17,8 @@ use Rattle.places.proofs.Placed.{Placed, none-unplaced}
 use Rattle.bits.specs.Bits.{bit, fromBits, bytesWith, runAt}
 use Rattle.bits.proofs.Bits.{bit-shr, bit-from, from-same, from-of, bytes-same}
 use Rattle.bits.proofs.Number.{lies-in}
-use Rattle.single.specs.Single.{liesThere, cutFrom, laidOn}
-use Rattle.single.proofs.Cutting.{there, cut-is-read}
+use Rattle.single.specs.Single.{numberOf, liesThere, cutFrom, allLie, numbersOf, taking, taken, laidOn}
+use Rattle.single.proofs.Cutting.{there, cut-lies, lies-at, all-taken, cut-is-read}
 use Rattle.single.proofs.Laying.{word-laid}
 use Rattle.payload.specs.declared.Laying.the-variants.{Done}
 use Rattle.payload.specs.Payload.{bitAfterAll, packed, readAll}
@@ -39,13 +39,13 @@ abbrev pub outside : List ℕ → List ℕ → ℕ → Bool
 outside ss ws i = not (liesThere (getD ss i 0) (getD ws i 0))
 
 module _ (ss ws : List ℕ) (few : length ss ≤ 64) (each : None (outside ss ws) (length ss)) where
-  lies-at : (i : ℕ) → i < length ss → liesThere (getD ss i 0) (getD ws i 0) ≡ true
-  lies-at i l = not-false _ (each i l)
+  inside-at : (i : ℕ) → i < length ss → liesThere (getD ss i 0) (getD ws i 0) ≡ true
+  inside-at i l = not-false _ (each i l)
 
   ends-low : (n : ℕ) → n ≤ length ss → endTo ss ws n ≤ 64
   unfolding endTo
   ends-low zero l = omega arith
-  ends-low (suc n) l = omega (arith, ends-low n (omega arith), there (getD ss n 0) (getD ws n 0) (lies-at n l))
+  ends-low (suc n) l = omega (arith, ends-low n (omega arith), there (getD ss n 0) (getD ws n 0) (inside-at n l))
 
   -- each has its place, and L is 8
   pub all-short : (unplacedIn ss ws ≡ 0) × (sizeOf ss ws ≡ 8)
@@ -53,7 +53,7 @@ module _ (ss ws : List ℕ) (few : length ss ≤ 64) (each : None (outside ss ws
   all-short = (none-unplaced ss ws placed, omega (arith, ends-low (length ss) (omega arith)))
     where
       placed : (i : ℕ) → i < length ss → Placed i (getD ss i 0) (getD ws i 0)
-      placed i l = let p = there (getD ss i 0) (getD ws i 0) (lies-at i l) in record { position = omega arith; some = p .0; most = p .1; ends = omega arith }
+      placed i l = let p = there (getD ss i 0) (getD ws i 0) (inside-at i l) in record { position = omega arith; some = p .0; most = p .1; ends = omega arith }
 
 -- ---- packed
 
@@ -114,22 +114,24 @@ byte-is word k above e = ap (λ (x : ℕ). x % 256) e ∙ sym (from-of (word / 2
 pub eight-listed : (d : List ℕ) → length d ≡ 8 → tabulate (λ k. getD d k 0) 8 ≡ d
 eight-listed d e = ext-getD 0 _ d (length-tabulate _ 8 ∙ sym e) (λ k l. get-tabulate _ 8 k (omega (arith, rw length-tabulate at l)))
 
--- the numbers of a map by their index, and all of them written
-abbrev pub cutAt : List ℕ → List ℕ → ℕ → ℕ → ℕ
-cutAt ss ws word i = cutFrom word (getD ss i 0) (getD ws i 0)
+-- what was taken says that each has its place, that L is 8, and that there is room
+module _ (ss ws payload held : List ℕ) (word : ℕ) (few : length ss ≤ 64) (long : length payload ≡ 8) (e : word ≡ runAt payload 0 64) (y : taking ss ws (length held) ≡ true) where
+  parts : (length ss ≤ length held) × (allLie ss ws ≡ true)
+  parts =
+      let (f, g) = and-eq-true-iff (not (ltb (length ws) (length ss) || ltb (length held) (length ss))) (allLie ss ws) .0 y in
+      (ltb-false _ _ (neither (ltb (length ws) (length ss)) _ (not-true _ f) .1), g)
 
-pub cut-end : (ss ws : List ℕ) (word : ℕ) (d : List ℕ) → length d ≡ length ss
-    → tabulate (cutAt ss ws word) (length ss) ++ drop (length ss) d ≡ tabulate (cutAt ss ws word) (length ss)
-cut-end ss ws word d e = rw (← e) (write-all (cutAt ss ws word) d)
+  short : (unplacedIn ss ws ≡ 0) × (sizeOf ss ws ≡ 8)
+  short = all-short ss ws few (λ i l. rw (lies-at ss ws (parts .1) i l))
 
-module _ (ss ws payload : List ℕ) (u : unplacedIn ss ws ≡ 0) (z : sizeOf ss ws ≡ 8) (long : length payload ≡ 8) where
-  numbers-cut : (word : ℕ) → word ≡ runAt payload 0 64 → tabulate (cutAt ss ws word) (length ss) ≡ readAll ss ws payload
-  unfolding readAll
-  numbers-cut word e =
-      tabulate-equal _ _ (length ss) (λ i l. read-turn ss ws u i l payload _ (long ∙ sym z) (rw e (cut-is-read payload (getD ss i 0) (getD ws i 0) long)))
+  numbers-cut : numbersOf word ss ws ≡ readAll ss ws payload
+  unfolding numbersOf readAll
+  numbers-cut = tabulate-equal _ _ (length ss) (λ i l. sym (one i l) ∙ read-turn ss ws (short .0) i l payload _ (long ∙ sym (short .1)) (rw e (cut-is-read payload (getD ss i 0) (getD ws i 0) long)))
+    where
+      one : (i : ℕ) → i < length ss → cutFrom word (getD ss i 0) (getD ws i 0) ≡ numberOf word (getD ss i 0) (getD ws i 0)
+      one i l = let p = there (getD ss i 0) (getD ws i 0) (lies-at ss ws (parts .1) i l) in cut-lies word (getD ss i 0) (getD ws i 0) (p .1) (p .2)
 
-  -- laid into the room, that is what reading makes
-  pub short-read : (held numbers : List ℕ) (word : ℕ) → length ss ≤ length held → word ≡ runAt payload 0 64
-      → numbers ≡ tabulate (cutAt ss ws word) (length ss) → left (Done (length ss)) (numbers ++ drop (length ss) held) ≡ reading ss ws payload held
+  -- that is what reading makes
+  pub short-read : left (Done (length ss)) (taken word ss ws held) ≡ reading ss ws payload held
   unfolding reading
-  short-read held numbers word room e f = let g = f ∙ numbers-cut word e in simp (u, z, eq-eqb _ _ long, le-ltb _ _ room, ← g)
+  short-read = simp (short .0, short .1, eq-eqb _ _ long, le-ltb _ _ (parts .0), ← numbers-cut, ← all-taken word ss ws held y _ refl)

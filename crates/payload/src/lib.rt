@@ -2,12 +2,10 @@
 // judgement. A payload of eight bytes, which most are, is packed and read as one number; any other one byte by byte.
 ghost use mathlib.Core.Path.{_≡_};
 ghost use mathlib.Core.Bool.{true};
-ghost use Prim.Native.Nat.{_≤_};
+ghost use Prim.Native.Nat.{ℕ, _≤_, _<_};
 ghost use lib.ListN.{length, getD};
-ghost use Rattle.words.specs.Lists.{tabulate};
 ghost use Rattle.places.specs.Place.{sizeOf, unplacedIn, endPlaced};
 ghost use Rattle.bits.specs.Bits.{bit, bytesWith};
-ghost use Rattle.single.specs.Single.{cutFrom};
 ghost use Rattle.payload.specs.Payload.{packed, readAll};
 ghost use Rattle.payload.specs.Calls.{left, needsMore, tooWideIn, packing, reading};
 
@@ -28,19 +26,16 @@ fn map_size(starts: &[u32], widths: &[u32], end: u64) -> usize
     places::bytes_for(end) as usize
 }
 
-// Whether a number needs more than its width.
+// Whether a number needs more than its width, where that is 32 at most. Any width may be asked, without a jump: of a wider one nothing is said.
 fn needs_more(value: u32, width: u32) -> bool
-    ensures { λ r. ⌜ r ≡ needsMore value width ⌝ }
+    ensures { λ r. ⌜ (width ≤ 32 → r ≡ needsMore value width) ⌝ }
 {
-    if 32 <= width {
-        return false;
-    }
-    value >> width != 0
+    (value as u64) >> (width % 64) != 0
 }
 
 // The lowest position whose number needs more than its width, or 0.
 fn too_wide(widths: &[u32], numbers: &[u32]) -> u8
-    requires { ⌜ (length (now numbers) ≤ length (now widths)) × (length (now numbers) ≤ 64) ⌝ }
+    requires { ⌜ (length (now numbers) ≤ length (now widths)) × (length (now numbers) ≤ 64) × ((i : ℕ) → i < length (now numbers) → getD (now widths) i 0 ≤ 32) ⌝ }
     ensures { λ r. ⌜ r ≡ tooWideIn (now (widths .entry)) (now (numbers .entry)) ⌝ }
 {
     let mut i = 0;
@@ -199,21 +194,6 @@ fn read_any(starts: &[u32], widths: &[u32], payload: &[u8], room: &mut [u32]) ->
     Laying::Done(count)
 }
 
-// Whether every parameter of a map lies in eight bytes.
-fn all_lie(starts: &[u32], widths: &[u32]) -> bool
-    requires { ⌜ (length (now starts) ≤ 64) × (length (now starts) ≤ length (now widths)) ⌝ }
-    ensures { λ r. ⌜ (r ≡ true → (unplacedIn (now (starts .entry)) (now (widths .entry)) ≡ 0) × (sizeOf (now (starts .entry)) (now (widths .entry)) ≡ 8)) ⌝ }
-{
-    let mut i = 0;
-    while i < starts.len() {
-        if !single::lies(starts[i], widths[i]) {
-            return false;
-        }
-        i += 1;
-    }
-    true
-}
-
 // The eight bytes of a payload, by value.
 fn eight_of(payload: &[u8]) -> [u8; 8]
     requires { ⌜ length (now payload) ≡ 8 ⌝ }
@@ -231,30 +211,16 @@ fn eight_of(payload: &[u8]) -> [u8; 8]
     ]
 }
 
-// Cuts a map's numbers out of eight bytes as one number, into exactly n places.
-fn read_word(starts: &[u32], widths: &[u32], word: u64, room: &mut [u32])
-    requires { ⌜ (length (now starts) ≤ length (now widths)) × (length (now room) ≡ length (now starts)) ⌝ }
-    ensures { λ _. ⌜ now (room .exit) ≡ tabulate (λ i. cutFrom word (getD (now (starts .entry)) i 0) (getD (now (widths .entry)) i 0)) (length (now (starts .entry))) ⌝ }
-{
-    let mut i = 0;
-    while i < starts.len() {
-        room[i] = single::number_in(word, starts[i], widths[i]);
-        i += 1;
-    }
-}
-
 // Reads the numbers of a map into the first n places of `room`. Every test is made before the first number is written. Where all of them lie in the eight bytes
 // of a payload they are cut out of one number; what is not read so, a refusal too, goes as any map does.
 pub fn read(starts: &[u32], widths: &[u32], payload: &[u8], room: &mut [u32]) -> Laying
     ensures { λ r. ⌜ left r (now (room .exit)) ≡ reading (now (starts .entry)) (now (widths .entry)) (now (payload .entry)) (now (room .entry)) ⌝ }
 {
-    let n = starts.len();
-    if (payload.len() == 8) & (n <= room.len()) & may_be_short(starts, widths) {
-        if all_lie(starts, widths) {
-            let eight = eight_of(payload);
-            let word = single::word_of(&eight);
-            read_word(starts, widths, word, &mut room[..n]);
-            let count = n as u32;
+    if (payload.len() == 8) & may_be_short(starts, widths) {
+        let eight = eight_of(payload);
+        let word = single::word_of(&eight);
+        if single::numbers_in(word, starts, widths, room) {
+            let count = starts.len() as u32;
             return Laying::Done(count);
         }
     }

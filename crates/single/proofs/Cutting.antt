@@ -1,22 +1,23 @@
 -- Cutting a number out of eight bytes that are held as one number. Assumes nothing.
 use mathlib.Core.Path.{_≡_, sym, ap, ap₂, _∙_}
 use mathlib.Core.Bool.{true, false, _&&_, and-eq-true-iff}
-use mathlib.Core.List.{List}
+use mathlib.Core.List.{List, _++_}
 use Prim.Native.Nat.{ℕ, _+_, _-_, _*_, _/_, _%_, _^_, _≤_, _<_}
 use native.Mathlib.Nat.{mod-eq-of-lt, mod-lt, lt-of-lt-of-le}
 use native.Mathlib.Omega.{arith}
 use native.Mathlib.Decide.{decLt}
 use lib.Pow.{pow-pos, pow-mono}
-use lib.ListN.{length}
-use lib.Dec.{leb}
-use borrow.Author.Tests.{le-leb, leb-true}
-use Rattle.words.proofs.Tests.{test, never}
+use lib.ListN.{length, getD, drop}
+use lib.Dec.{leb, ltb}
+use borrow.Author.Tests.{not-true, not-false, le-leb, leb-true, lt-ltb, le-ltb, ltb-true}
+use Rattle.words.proofs.Lowest.{any-each}
+use Rattle.words.proofs.Tests.{test, never, same-test}
 use Rattle.places.specs.Place.{odd, skipped, place, endOf}
 use Rattle.places.proofs.Place.{whole, left, by-runs, low-run, left-run, one-run, end-runs, even-skips}
 use Rattle.bits.specs.Bits.{bit, bitAt, fromBits, liesIn, readNumber, numberIn, runAt}
 use Rattle.bits.proofs.Bits.{bit-lt, bit-shr, bitAt-lt, from-lt, bit-from, from-same, from-of, from-add}
 use Rattle.bits.proofs.Number.{lies, lies-in}
-use Rattle.single.specs.Single.{runIn, numberOf, liesThere, cutFrom}
+use Rattle.single.specs.Single.{runIn, numberOf, liesThere, cutFrom, allLie, numbersOf, taking, taken}
 
 -- ---- runs of a number's bits
 
@@ -72,9 +73,32 @@ there s w e =
     let (c, d) = and-eq-true-iff (leb 1 w) (leb w 32) .0 a in
     (leb-true 1 w c, leb-true w 32 d, leb-true _ 64 b)
 
+-- a width of eight bits or less is not odd
+pub narrow : (w : ℕ) → w ≤ 8 → odd w ≡ false
+unfolding odd
+narrow w l = rw (le-ltb 8 w l)
+
 -- the end of one that skips no bit
 pub even-end : (s w : ℕ) → odd w ≡ false → endOf s w ≡ s + w
 even-end s w e = omega (arith, end-runs s w, even-skips w e)
+
+-- the same in parts below 64, whose sum is the end where it lies there
+pub in-parts : (s w e : ℕ) → e ≡ s % 64 + skipped w + w % 64 → (leb 1 w && leb w 32 && ltb s 64 && leb e 64) ≡ liesThere s w
+in-parts s w e q = same-test _ _ lie back
+  where
+    lie : (leb 1 w && leb w 32 && ltb s 64 && leb e 64) ≡ true → liesThere s w ≡ true
+    lie y =
+        let (f, g) = and-eq-true-iff (leb 1 w && leb w 32 && ltb s 64) (leb e 64) .0 y in
+        let (h, k) = and-eq-true-iff (leb 1 w && leb w 32) (ltb s 64) .0 f in
+        let (c, d) = and-eq-true-iff (leb 1 w) (leb w 32) .0 h in
+        rw (c, d) (le-leb (endOf s w) 64 (omega (arith, end-runs s w, q, leb-true w 32 d, ltb-true s 64 k, leb-true e 64 g)))
+
+    back : liesThere s w ≡ true → (leb 1 w && leb w 32 && ltb s 64 && leb e 64) ≡ true
+    back y =
+        let p = there s w y in
+        let l : s < 64 = omega (arith, end-runs s w, p) in
+        let m : e ≤ 64 = omega (arith, end-runs s w, p, q) in
+        rw (le-leb 1 w (p .0), le-leb w 32 (p .1), lt-ltb s 64 l) (le-leb e 64 m)
 
 -- what lies in eight bytes, and does not lie there with a bit, has none
 pub without : (s w : ℕ) → liesThere s w ≡ false → liesIn 8 s w ≡ true → w ≡ 0
@@ -88,6 +112,21 @@ without s w n y =
 pub cut-not : (word s w : ℕ) → liesThere s w ≡ false → cutFrom word s w ≡ 0
 unfolding cutFrom numberOf fromBits
 cut-not word s w n = test (liesIn 8 s w) (λ y. let e : w ≡ 0 = without s w n y in rw (y, e)) (λ f. rw f)
+
+-- ---- the numbers of a map
+
+pub lies-at : (ss ws : List ℕ) → allLie ss ws ≡ true → (i : ℕ) → i < length ss → liesThere (getD ss i 0) (getD ws i 0) ≡ true
+unfolding allLie
+lies-at ss ws e i l = not-false _ (any-each _ (length ss) (not-true _ e) i l)
+
+module _ (word : ℕ) (ss ws held : List ℕ) where
+  pub not-taken : taking ss ws (length held) ≡ false → held ≡ taken word ss ws held
+  unfolding taken
+  not-taken e = rw e
+
+  pub all-taken : taking ss ws (length held) ≡ true → (numbers : List ℕ) → numbers ≡ numbersOf word ss ws → numbers ++ drop (length ss) held ≡ taken word ss ws held
+  unfolding taken
+  all-taken e numbers f = rw (e, f)
 
 -- ---- THE BITS OF THE PAYLOAD
 

@@ -1,8 +1,12 @@
 -- A parameter's number in a payload of eight bytes that is held as one number (01, "Payload bits"): payload bit p is then bit p of that number (law same-bits).
 -- Assumes nothing.
-use mathlib.Core.Bool.{Bool, cond, _&&_}
+use mathlib.Core.Bool.{Bool, cond, not, _&&_, _||_}
+use mathlib.Core.List.{List, _++_}
 use Prim.Native.Nat.{ℕ, _/_, _%_, _^_}
-use lib.Dec.{leb}
+use lib.Dec.{leb, ltb}
+use lib.ListN.{length, getD, drop}
+use Rattle.words.specs.First.{any}
+use Rattle.words.specs.Lists.{tabulate}
 use Rattle.places.specs.Place.{place, endOf}
 use Rattle.bits.specs.Bits.{bit, fromBits, bitAfter, liesIn}
 
@@ -21,6 +25,26 @@ liesThere start width = leb 1 width && leb width 32 && leb (endOf start width) 6
 -- the number, and 0 where it does not lie in eight bytes
 unfoldable pub cutFrom : ℕ → ℕ → ℕ → ℕ
 cutFrom word start width = cond (liesIn 8 start width) (numberOf word start width) 0
+
+-- ---- the numbers of a map, the lists of its starts and of its widths
+
+-- whether every parameter lies in eight bytes
+unfoldable pub allLie : List ℕ → List ℕ → Bool
+allLie ss ws = not (any (λ i. not (liesThere (getD ss i 0) (getD ws i 0))) (length ss))
+
+-- the numbers of all
+unfoldable pub numbersOf : ℕ → List ℕ → List ℕ → List ℕ
+numbersOf word ss ws = tabulate (λ i. numberOf word (getD ss i 0) (getD ws i 0)) (length ss)
+
+-- whether they are taken: there are no fewer widths and no fewer places than starts, and every parameter lies in eight bytes
+abbrev pub taking : List ℕ → List ℕ → ℕ → Bool
+taking ss ws places = not (ltb (length ws) (length ss) || ltb places (length ss)) && allLie ss ws
+
+-- taken, over the start of a room; else it holds what it held
+unfoldable pub taken : ℕ → List ℕ → List ℕ → List ℕ → List ℕ
+taken word ss ws held = cond (taking ss ws (length held)) (numbersOf word ss ws ++ drop (length ss) held) held
+
+-- ---- and back
 
 -- the number with the n low bits of value laid at the bits at 0 .. at (n - 1)
 abbrev pub laidAt : (ℕ → ℕ) → ℕ → ℕ → ℕ → ℕ

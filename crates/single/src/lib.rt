@@ -7,7 +7,7 @@ ghost use lib.Dec.{eqb};
 ghost use lib.ListN.{length};
 ghost use Rattle.places.specs.Place.{odd, place, endOf};
 ghost use Rattle.bits.specs.Bits.{bit, runAt};
-ghost use Rattle.single.specs.Single.{runIn, numberOf, liesThere, cutFrom, laidAt, laidOn};
+ghost use Rattle.single.specs.Single.{runIn, numberOf, liesThere, cutFrom, allLie, numbersOf, taking, taken, laidAt, laidOn};
 
 // The bytes of a frame.
 const BYTES: usize = 8;
@@ -54,44 +54,94 @@ fn cut_odd(word: u64, start: u32, width: u32) -> u32
     low + (high << whole)
 }
 
-// Whether a parameter has a bit, 32 at most, and all of them in eight bytes.
+// Whether a parameter has a bit, 32 at most, and all of them in eight bytes. Most are narrow: they skip no bit, and are asked for none.
 pub fn lies(start: u32, width: u32) -> bool
     ensures { λ r. ⌜ r ≡ liesThere start width ⌝ }
 {
-    (1 <= width) & (width <= 32) & (places::end_bit(start, width) <= 64)
+    if width <= 8 {
+        return (1 <= width) & (start as u64 + width as u64 <= 64);
+    }
+    (width <= 32) & (places::end_bit(start, width) <= 64)
 }
 
-// The same of one whose width is not odd, which skips no bit.
-fn run_lies(start: u32, width: u32) -> bool
-    requires { ⌜ odd width ≡ false ⌝ }
+// The same, without a jump and in 32 bits: for a loop over a map, which is then made of a few steps for four parameters at once, and where nobody can foresee which are narrow.
+fn lies_too(start: u32, width: u32) -> bool
     ensures { λ r. ⌜ r ≡ liesThere start width ⌝ }
 {
-    (1 <= width) & (width <= 32) & (start as u64 + width as u64 <= 64)
+    let end = start % 64 + places::skipped_bits(width) + width % 64;
+    (1 <= width) & (width <= 32) & (start < 64) & (end <= 64)
 }
 
-// The number of a parameter of an odd width, 0 where it does not lie in the eight bytes.
-fn odd_in(word: u64, start: u32, width: u32) -> u32
-    requires { ⌜ odd width ≡ true ⌝ }
-    ensures { λ r. ⌜ r ≡ cutFrom word start width ⌝ }
+// The number of a parameter that lies in the eight bytes.
+fn cut(word: u64, start: u32, width: u32) -> u32
+    requires { ⌜ liesThere start width ≡ true ⌝ }
+    ensures { λ r. ⌜ r ≡ numberOf word start width ⌝ }
 {
-    if !lies(start, width) {
-        return 0;
+    if width <= 8 { // most are
+        return run_in(word, start, width);
     }
-    cut_odd(word, start, width)
-}
-
-// The number of a parameter, out of the eight bytes as one number; 0 where it does not lie in them. Few widths are odd: the others are asked for no bits that they skip.
-pub fn number_in(word: u64, start: u32, width: u32) -> u32
-    ensures { λ r. ⌜ r ≡ cutFrom word start width ⌝ }
-{
     if places::is_odd(width) {
-        return odd_in(word, start, width);
-    }
-    if !run_lies(start, width) {
-        return 0;
+        return cut_odd(word, start, width);
     }
     run_in(word, start, width)
 }
+
+// The number of a parameter, out of the eight bytes as one number; 0 where it does not lie in them.
+pub fn number_in(word: u64, start: u32, width: u32) -> u32
+    ensures { λ r. ⌜ r ≡ cutFrom word start width ⌝ }
+{
+    if !lies_too(start, width) {
+        return 0;
+    }
+    cut(word, start, width)
+}
+
+// ---- the numbers of a map
+
+// Whether every parameter of a map lies in eight bytes.
+fn all_lie(starts: &[u32], widths: &[u32]) -> bool
+    requires { ⌜ length (now starts) ≤ length (now widths) ⌝ }
+    ensures { λ r. ⌜ r ≡ allLie (now (starts .entry)) (now (widths .entry)) ⌝ }
+{
+    let mut outside = false;
+    let mut i = 0;
+    while i < starts.len() {
+        outside |= !lies_too(starts[i], widths[i]);
+        i += 1;
+    }
+    !outside
+}
+
+// Cuts the numbers of a map that lies in the eight bytes, into exactly as many places.
+fn cut_all(word: u64, starts: &[u32], widths: &[u32], room: &mut [u32])
+    requires { ⌜ (length (now starts) ≤ length (now widths)) × (length (now room) ≡ length (now starts)) × (allLie (now starts) (now widths) ≡ true) ⌝ }
+    ensures { λ _. ⌜ now (room .exit) ≡ numbersOf word (now (starts .entry)) (now (widths .entry)) ⌝ }
+{
+    let mut i = 0;
+    while i < starts.len() {
+        room[i] = cut(word, starts[i], widths[i]);
+        i += 1;
+    }
+}
+
+// The numbers of a map, out of the eight bytes as one number, over the start of `room`: all of them, or none and the room as it was, where one does not lie in the eight bytes or
+// there are fewer widths or places than starts.
+pub fn numbers_in(word: u64, starts: &[u32], widths: &[u32], room: &mut [u32]) -> bool
+    ensures { λ r. ⌜ (r ≡ taking (now (starts .entry)) (now (widths .entry)) (length (now (room .entry))))
+        × (now (room .exit) ≡ taken word (now (starts .entry)) (now (widths .entry)) (now (room .entry))) ⌝ }
+{
+    let n = starts.len();
+    if (widths.len() < n) | (room.len() < n) {
+        return false;
+    }
+    if !all_lie(starts, widths) {
+        return false;
+    }
+    cut_all(word, starts, widths, &mut room[..n]);
+    true
+}
+
+// ---- and back
 
 // The number with the bits that the mask has taken from `bits`.
 fn merge(word: u64, mask: u64, bits: u64) -> u64

@@ -1,6 +1,7 @@
 // Whether a number that was read is a measurement (02, Req 05). Drivers read 255 as a pressure: J1939-71 keeps the top of a parameter's range for "reserved",
 // "error" and "not available". Which of these a number is goes by the width of its parameter alone.
 ghost use mathlib.Core.Path.{_≡_};
+ghost use Prim.Native.Nat.{_<_};
 ghost use Rattle.states.specs.States.{byByte, byTwoBits, kindOf, stateBy, stateOf, statesOver};
 
 // The states.
@@ -69,10 +70,24 @@ pub fn state_by(kind: u8, number: u32) -> u8
     }
 }
 
-// The state of a number of a parameter of this width.
+// The state of a number of a parameter of less than one byte: two bits have a row, and no other width.
+fn narrow_state(width: u32, number: u32) -> u8
+    requires { ⌜ width < 8 ⌝ }
+    ensures { λ r. ⌜ r ≡ stateOf width number ⌝ }
+{
+    if width == 2 {
+        return by_two_bits(number);
+    }
+    VALID
+}
+
+// The state of a number of a parameter of this width. Most are narrow: they are not asked for a row of bytes.
 pub fn state_of(width: u32, number: u32) -> u8
     ensures { λ r. ⌜ r ≡ stateOf width number ⌝ }
 {
+    if width < 8 {
+        return narrow_state(width, number);
+    }
     state_by(kind_of(width), number)
 }
 

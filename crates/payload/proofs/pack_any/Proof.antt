@@ -7,7 +7,8 @@ use borrow.Author.Needs.{needs}
 use borrow.Author.Tests.{lt-ltb, le-ltb}
 use lib.ListN.{length}
 use lib.Seq.{length-take-le}
-use Rattle.places.proofs.Placed.{placed-widths, placed-count}
+use Rattle.places.specs.Place.{unplacedIn}
+use Rattle.places.proofs.Placed.{placed-widths, placed-count, placed-in}
 use Rattle.payload.specs.Calls.{packing}
 use Rattle.payload.proofs.Turns.{lengths}
 use Rattle.payload.proofs.pack_any.Statement.{statement}
@@ -32,7 +33,12 @@ returns-2 c =
 too-wide-requires : tie.Need-too-wide-requires
 too-wide-requires c κs =
     let a = c .before .before .before .before .before .before .before .before .before .args in
-    omega (arith, right c, placed-widths (now (a .starts)) (now (a .widths)) (omega arith), placed-count (now (a .starts)) (now (a .widths)) (omega arith))
+    let r = right c in
+    let u : unplacedIn (now (a .starts)) (now (a .widths)) ≡ 0 = omega arith in (
+      omega (arith, r, placed-widths (now (a .starts)) (now (a .widths)) u),
+      omega (arith, r, placed-count (now (a .starts)) (now (a .widths)) u),
+      λ i l. placed-in (now (a .starts)) (now (a .widths)) u i (omega (arith, r, l)) .0,
+    )
 
 returns-3 : tie.Need-returns-3
 unfolding packing

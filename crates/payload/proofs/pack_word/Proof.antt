@@ -1,15 +1,17 @@
 -- `pack_word`: every parameter passed lies in eight bytes and its number fits, and the numbers of the first i are laid. Assumes nothing.
-use mathlib.Core.Path.{_≡_, refl, sym, ap₂, _∙_}
-use mathlib.Core.Bool.{Bool, not, _||_}
+use mathlib.Core.Path.{_≡_, refl, sym, _∙_}
+use mathlib.Core.Bool.{false, not}
 use Prim.Native.Nat.{_-_, _≤_}
 use native.Mathlib.Omega.{arith}
 use denote.Ref.{now}
 use borrow.Author.Count.{below-none}
 use borrow.Author.Needs.{needs}
+use borrow.Author.Tests.{not-false}
 use lib.ListN.{length}
-use Rattle.words.proofs.Lowest.{None, turn}
+use Rattle.words.proofs.Lowest.{None, turn, neither}
 use Rattle.words.proofs.Tests.{never}
 use Rattle.bits.specs.Bits.{fromBits}
+use Rattle.single.proofs.Cutting.{there}
 use Rattle.payload.specs.Payload.{bitAfterAll}
 use Rattle.payload.proofs.OneWord.{stops, wordTo, word-turn, word-packed}
 use Rattle.payload.proofs.pack_word.Statement.{statement}
@@ -25,12 +27,16 @@ loop-holds : tie.Need-loop-holds Inv-loop μ-loop
 unfolding fromBits bitAfterAll
 loop-holds c = (search needs, refl, below-none _)
 
--- what the test of the loop answered
-seen : (c : tie.After-needs-more Inv-loop μ-loop) →
-    let l = c .before .before .before .before .before .before in
+-- past the test of the loop it lies there and its number fits
+passed : (c : tie.Else1 Inv-loop μ-loop) →
+    let l = c .before .before .before .before .before .before .before in
     let a = l .before .before .before .before .args in
-    (not (c .before .lies .result) || c .needs-more .result) ≡ stops (now (a .starts)) (now (a .widths)) (now (a .numbers)) (l .loop .i)
-seen c = ap₂ (λ (x : Bool) (y : Bool). not x || y) (c .before .lies .ensures) (c .needs-more .ensures)
+    stops (now (a .starts)) (now (a .widths)) (now (a .numbers)) (l .loop .i) ≡ false
+passed c =
+    let m = c .before in
+    let (f, g) = neither (not (m .before .lies .result)) _ (c .if1 .left) in
+    let y = sym (m .before .lies .ensures) ∙ not-false _ f in
+    rw y (sym (m .needs-more .ensures (there _ _ y .1)) ∙ g)
 
 loop-again : tie.Need-loop-again Inv-loop μ-loop
 loop-again c =
@@ -38,8 +44,8 @@ loop-again c =
     let l = t .before .before .before .before .before .before .before in
     let a = l .before .before .before .before .args in (
       search needs,
-      word-turn (now (a .starts)) (now (a .widths)) (now (a .numbers)) (l .loop .i) (l .loop .word) _ (sym (seen (t .before)) ∙ t .if1 .left) (l .loop .inv .1) (c .with-number .ensures),
-      turn _ (l .loop .i) _ (l .loop .inv .2) (seen (t .before)) (t .if1 .left),
+      word-turn (now (a .starts)) (now (a .widths)) (now (a .numbers)) (l .loop .i) (l .loop .word) _ (passed t) (l .loop .inv .1) (c .with-number .ensures),
+      turn _ (l .loop .i) _ (l .loop .inv .2) refl (passed t),
     )
 
 returns-2 : tie.Need-returns-2 Inv-loop μ-loop

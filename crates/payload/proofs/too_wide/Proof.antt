@@ -1,6 +1,8 @@
 -- `too_wide`: no number passed needs more than its width, so the one that stops the search is the lowest. Assumes nothing.
+use mathlib.Core.Path.{_≡_}
 use Prim.Native.Nat.{_-_, _≤_}
 use native.Mathlib.Omega.{arith}
+use denote.Ref.{now}
 use borrow.Author.Count.{below-none}
 use borrow.Author.Needs.{needs}
 use lib.ListN.{length, getD}
@@ -18,16 +20,23 @@ abbrev μ-loop : tie.MeasureT-loop
 loop-holds : tie.Need-loop-holds Inv-loop μ-loop
 loop-holds c = (search needs, below-none _)
 
+-- what the test of the loop answered
+seen : (c : tie.After-needs-more Inv-loop μ-loop) →
+    let l = c .before .before .before .before in
+    let a = l .before .before .before .args in
+    c .needs-more .result ≡ needsMore (getD (now (a .numbers)) (l .loop .i) 0) (getD (now (a .widths)) (l .loop .i) 0)
+seen c = let l = c .before .before .before .before in c .needs-more .ensures (l .before .before .before .pre .2 (l .loop .i) (omega arith))
+
 returns : tie.Need-returns Inv-loop μ-loop
 unfolding tooWideIn
 returns c =
     let l = c .before .before .before .before .before in
-    hit _ _ (l .loop .i) _ (omega arith) (l .loop .inv .1) (c .before .needs-more .ensures) (c .if1 .taken)
+    hit _ _ (l .loop .i) _ (omega arith) (l .loop .inv .1) (seen (c .before)) (c .if1 .taken)
 
 loop-again : tie.Need-loop-again Inv-loop μ-loop
 loop-again c =
     let l = c .before .before .before .before .before in
-    (search needs, turn _ _ _ (l .loop .inv .1) (c .before .needs-more .ensures) (c .if1 .left))
+    (search needs, turn _ _ _ (l .loop .inv .1) (seen (c .before)) (c .if1 .left))
 
 returns-2 : tie.Need-returns-2 Inv-loop μ-loop
 unfolding tooWideIn
