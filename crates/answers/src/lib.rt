@@ -1,10 +1,12 @@
 // The answers of document 01: a number, a detail, and the judgement nested in them (01, "Answer numbers").
 // Only this room takes a Judgement apart; the others build its cases and compare numbers.
+#![tactic(auto)]
+
 ghost use Rattle.std.specs.Prelude.{◌≡◌};
 ghost use Rattle.answers.specs.Answers.{said_of, in_numbers, plain, detailed, judged, unusable};
 
 // What a map is worth (01, "A set and its judgement"; 02, Req 04), in the order of the tests; a case that concerns a position carries it.
-#[derive(Drop)]
+#[derive(Clone, Copy)]
 pub enum Judgement {
     Usable,
     Conflict,
@@ -19,7 +21,7 @@ pub enum Judgement {
 }
 
 // The detail is 0 unless 01 says another; where the number is 12, and for 0 of judging, the judgement is the detail.
-#[derive(Drop)]
+#[derive(Clone, Copy)]
 pub struct Answer {
     pub number: u8,
     pub detail: u32,

@@ -1,5 +1,7 @@
 // Every question about a key: judging its map by its edition, packing and reading its payloads, finding an SPN in it (01, "Answer numbers"; 02, Req 10). The learned table is
 // lent as words; whatever they hold, each call has its defined answer, and none changes them. A call opens its key's map once (crate open).
+#![tactic(auto)]
+
 ghost use Rattle.std.specs.Prelude.{◌≡◌, ◌≤◌, eqb, length, get_or};
 ghost use Rattle.answers.specs.Answers.{in_numbers, outcome};
 ghost use Rattle.words.specs.First.{lowest};
@@ -16,7 +18,7 @@ use lookup::Table;
 use payload::Laying;
 
 // What finding gives; position, start and width are 0 on a refusal.
-#[derive(Drop)]
+#[derive(Clone, Copy)]
 pub struct Found {
     pub answer: Answer,
     pub position: u8,
@@ -25,7 +27,7 @@ pub struct Found {
 }
 
 // The parameter at a position; all 0 on a refusal, and the width 0 where the dictionary of the key's edition does not have the SPN.
-#[derive(Drop)]
+#[derive(Clone, Copy)]
 pub struct Parameter {
     pub answer: Answer,
     pub spn: u32,
@@ -50,7 +52,7 @@ fn ready(answer: Answer) -> Answer
 }
 
 // What pack and read begin with: 11, 12, else 0; and n.
-#[derive(Drop)]
+#[derive(Clone, Copy)]
 struct Lists {
     answer: Answer,
     n: usize,

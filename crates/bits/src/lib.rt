@@ -1,5 +1,7 @@
 // The bits of payload bytes (01, "Payload bits"): a parameter's number laid at its places, and read from them. This room knows bytes, and one start, width
 // and number at a time.
+#![tactic(auto)]
+
 ghost use Rattle.std.specs.Prelude.{◌≡◌, cond, true, false, ◌&&◌, ℕ, ◌+◌, ◌-◌, ◌*◌, ◌/◌, ◌%◌, ◌^◌, ◌≤◌, ◌<◌, eqb, leb, length};
 ghost use Rattle.places.specs.Place.{odd, place, end_of};
 ghost use Rattle.bits.specs.Bits.{bit, bit_at, bit_after, lies_in, with_number, read_number, number_in, run_at, masked};

@@ -1,6 +1,8 @@
 // A simulated bridge of four ports (02, Req 09): a frame that came in at a port is offered to the three others, each answering by its filter and its queue, and a slot lets one frame leave
 // a port. The counters of the twelve pairs and the queues of the four ports lie in words that the caller lends, beside the filters of the room `ports`
 // (specs/Bridge.antt). Whatever these words hold, each call has its defined answer.
+#![tactic(auto)]
+
 ghost use Rattle.std.specs.Prelude.{◌≡◌, ◌≤◌, ◌<◌, length};
 ghost use Rattle.answers.specs.Answers.{in_numbers};
 ghost use Rattle.counters.specs.Words.{noted_at};
@@ -29,14 +31,14 @@ const COUNTERS_FROM: usize = 18;
 const FILTERS_FROM: usize = 102;
 
 // What becomes of a frame that came in at a port: at each of the three other ports, rising; or that it was no port, which is answered 15.
-#[derive(Drop)]
+#[derive(Clone, Copy)]
 pub enum Offered {
     To(Fate, Fate, Fate),
     NoPort,
 }
 
 // The counters of a pair, and how many of its frames wait; all 0 with 15.
-#[derive(Drop)]
+#[derive(Clone, Copy)]
 pub struct Standing {
     pub answer: Answer,
     pub counters: Counters,

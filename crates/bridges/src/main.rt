@@ -9,6 +9,8 @@
 //   7 place, word of 8 bytes       writes a word of the counters; no line
 //   8 place of 2, word of 8 bytes  writes a word of the queues; no line
 //   9 queue                        the 65 words of a queue, from 0 on
+#![tactic(auto)]
+
 use answers::Answer;
 use bridge::{COUNTERS, CounterWords, Offered, QUEUES, QueueWords};
 use libc::STDOUT_FILENO;

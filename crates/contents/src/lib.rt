@@ -1,6 +1,8 @@
 // Asking an image of either form (02, Req 01 and 10): for a row of its contents by its number, from 0 on, and for a key. A body is handed back as a part of the caller's own image, an empty
 // part on a refusal; beside it a plain call gives the number: 21 damaged image, 22 key or row not in it. Any bytes may be asked, and each call checks the whole
 // image.
+#![tactic(auto)]
+
 ghost use Rattle.std.specs.Prelude.{◌≡◌, ◌+◌, ◌*◌, ◌≤◌, ◌<◌, cond, eqb, get_or};
 ghost use Rattle.answers.specs.Answers.{in_numbers};
 ghost use Rattle.maps.specs.Maps.{same_key};
@@ -64,7 +66,7 @@ pub fn row_asked(image: &[u8], i: usize) -> Answer
 }
 
 // What a row says, all of it in numbers: for C, and for who cannot hold a part. All but the answer is 0 on a refusal.
-#[derive(Drop)]
+#[derive(Clone, Copy)]
 pub struct Listed {
     pub answer: Answer,
     pub key: Key,

@@ -1,6 +1,8 @@
 // The six counters of one pair of ports, changed where they stand (02, Req 09: "arrived, filtered, queued, sent, turned away, refused"): a struct that is lent by
 // `&mut`, one thin function an event, the arithmetic by value (01, "Some places and their forms"). The counters of all pairs lie in words that the caller
 // lends, six for each pair (specs/Words.antt). Whatever they hold, they are counted on from there, modulo 2^64.
+#![tactic(auto)]
+
 ghost use Rattle.std.specs.Prelude.{◌≡◌, length};
 ghost use Rattle.counters.specs.Count.{more, with_arrived, with_filtered, with_queued, with_sent, with_turned, with_refused, with_fate};
 ghost use Rattle.counters.specs.Words.{no_counters, counters_in, words_of, counters_at, noted_at};
@@ -10,7 +12,7 @@ pub const PAIR_WORDS: usize = 6;
 
 // The counters of a pair. (`repr(C)`: firmware hands them to C as they are.)
 #[repr(C)]
-#[derive(Drop)]
+#[derive(Clone, Copy)]
 pub struct Counters {
     pub arrived: u64, // all that were offered
     pub filtered: u64, // those that the pair's list stopped
@@ -21,7 +23,7 @@ pub struct Counters {
 }
 
 // What becomes of a frame at a pair: one that is offered is refused, filtered, turned away or queued, and one that was queued is sent.
-#[derive(Drop)]
+#[derive(Clone, Copy)]
 pub enum Fate {
     Refused,
     Filtered,

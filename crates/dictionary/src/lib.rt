@@ -1,6 +1,8 @@
 // The two dictionaries, that of 2010 (002) and the older one of 2004 (000; 02, Req 10): where an SPN stands in the first, and how wide its parameter is in either (01, "A
 // set and its judgement"). Any SPN may be asked. The rows are the crate rows', the test of their rule is the crate rowrule's; what the rule gives at each row, and the laws of
 // a look-up, stand in proofs/, once for any rows. A public call lays the rows out once; they are lent to the private functions below it, and to nobody else.
+#![tactic(auto)]
+
 ghost use Rattle.std.specs.Prelude.{◌≡◌, cond, ◌≤◌};
 ghost use Rattle.rowrule.specs.Rows.{rows_in};
 ghost use Rattle.dictionary.specs.Dictionary.{width_in, number_in, found_row, number_of, width_of, width_by, widths_over, Lent};
@@ -9,14 +11,14 @@ ghost use Rattle.dictionary.specs.Dictionary.{width_in, number_in, found_row, nu
 const EDITION_2004: u32 = 2004;
 
 // The row that has an SPN, by its number from 0, or that no row has it.
-#[derive(Drop)]
+#[derive(Clone, Copy)]
 pub enum Found {
     At(usize),
     Nothing,
 }
 
 // What one look-up gives: where the SPN stands, and the width of its parameter, 0 where it stands nowhere.
-#[derive(Drop)]
+#[derive(Clone, Copy)]
 pub struct Entry {
     pub found: Found,
     pub width: u32,

@@ -1,5 +1,7 @@
 // Which edition of the dictionary a key's map is measured by (02, Req 10): a command gives a held key another one. The learned table is lent as words; whatever they
 // hold, the call has its defined answer. How the edition lies in a row is the crate keyrow's, and the crate lookup reads it.
+#![tactic(auto)]
+
 ghost use Rattle.std.specs.Prelude.{◌≡◌, ◌<◌, length};
 ghost use Rattle.answers.specs.Answers.{in_numbers, outcome};
 ghost use Rattle.history.specs.History.{most_keys, is_edition};

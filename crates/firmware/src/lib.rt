@@ -1,5 +1,7 @@
 // The box's calls for C (include/yendrolf.h declares them): each is one call of a room below, on memory that C lends as one pointer, and has that
 // room's promise. The length of what is lent stands in the type, so it is C that answers for it; include/yendrolf.h makes it one block.
+#![tactic(auto)]
+
 ghost use Rattle.std.specs.Prelude.{◌≡◌, length};
 ghost use Rattle.answers.specs.Answers.{outcome};
 ghost use Rattle.keyrow.specs.Row.{key_of, key_number};
@@ -45,7 +47,7 @@ use transport::{Arrived, Bytes, Heads, Payload};
 
 // An answer in 01's numbers: judgement and position are 0 but for 12 and for 0 of judging, where they are the detail.
 #[repr(C)]
-#[derive(Drop)]
+#[derive(Clone, Copy)]
 pub struct Told {
     pub number: u32,
     pub detail: u32,
@@ -68,7 +70,7 @@ fn in_c(a: Answer) -> Told
 
 // What finding gives; position, start and width are 0 on a refusal.
 #[repr(C)]
-#[derive(Drop)]
+#[derive(Clone, Copy)]
 pub struct Located {
     pub told: Told, // 11, 12, 18 or 0
     pub position: u32, // from 1
@@ -90,7 +92,7 @@ fn found_in_c(found: Found) -> Located
 
 // The parameter at a position; all 0 on a refusal, and the width 0 where the dictionary does not have the SPN.
 #[repr(C)]
-#[derive(Drop)]
+#[derive(Clone, Copy)]
 pub struct Placed {
     pub told: Told, // 11, 18 or 0
     pub spn: u32,
@@ -112,7 +114,7 @@ fn placed_in_c(parameter: Parameter) -> Placed
 
 // A row of an image: its key and edition, and where its body begins and how long it is; all 0 on a refusal.
 #[repr(C)]
-#[derive(Drop)]
+#[derive(Clone, Copy)]
 pub struct Row {
     pub told: Told, // 21, 22 or 0
     pub offset: usize, // of the body in the image
@@ -141,7 +143,7 @@ fn row_in_c(row: Listed) -> Row
 
 // What a packet is answered, and the PGN of the payload that it finished, 0 where it finished none.
 #[repr(C)]
-#[derive(Drop)]
+#[derive(Clone, Copy)]
 pub struct Brought {
     pub told: Told,
     pub pgn: u32,
@@ -159,7 +161,7 @@ fn brought_in_c(came: Arrived) -> Brought
 
 // What a frame at a port is answered: 0 and what each of the three other ports says, rising; or 15, and zeros that are no answers.
 #[repr(C)]
-#[derive(Drop)]
+#[derive(Clone, Copy)]
 pub struct Answered {
     pub told: Told,
     pub first: Told, // of the lowest other port
@@ -192,7 +194,7 @@ fn answered_in_c(offered: Offered) -> Answered
 
 // What is counted of a pair, and how many of its frames wait; all 0 on a refusal.
 #[repr(C)]
-#[derive(Drop)]
+#[derive(Clone, Copy)]
 pub struct Pair {
     pub told: Told, // 15 or 0
     pub counters: Counters,
@@ -213,7 +215,7 @@ fn pair_in_c(standing: Standing) -> Pair
 
 // What the report of a hire says of a position of a key; all 0 on a refusal.
 #[repr(C)]
-#[derive(Drop)]
+#[derive(Clone, Copy)]
 pub struct Counted {
     pub told: Told, // 11, 12, 25, 18 or 0
     pub cell: Cell, // what was counted of its numbers
@@ -234,7 +236,7 @@ fn line_in_c(line: Line) -> Counted
 
 // A held key, or four times 0. The fields are what the calls on a key take.
 #[repr(C)]
-#[derive(Drop)]
+#[derive(Clone, Copy)]
 pub struct Held {
     pub held: u8, // 1, or 0 where there is no key
     pub source: u8,

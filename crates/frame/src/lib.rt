@@ -1,4 +1,6 @@
 // A frame's identifier and the three-byte numbers of a frame's data (01, "A frame").
+#![tactic(auto)]
+
 ghost use Rattle.std.specs.Prelude.{◌≡◌, cond};
 ghost use Rattle.frame.specs.Frame.{fields_of, pgn_of, destination_of, three_of, pgn_bytes, spn_bytes, spn_of, rest_of};
 
@@ -6,7 +8,7 @@ ghost use Rattle.frame.specs.Frame.{fields_of, pgn_of, destination_of, three_of,
 pub const GREATEST: u32 = 0x1fff_ffff;
 
 // The six fields of a 29-bit identifier, from the top.
-#[derive(Drop)]
+#[derive(Clone, Copy)]
 pub struct Fields {
     pub priority: u8, // 3 bits
     pub reserved: u8, // 1 bit
@@ -17,7 +19,7 @@ pub struct Fields {
 }
 
 // Three data bytes that follow each other.
-#[derive(Drop)]
+#[derive(Clone, Copy)]
 pub struct Three {
     pub first: u8,
     pub second: u8,

@@ -1,6 +1,8 @@
 // Reports on the log of a hire (./hire; 02, Req 06): the log comes on standard input, the report goes to standard output. All that matters is proved in the crates hire and report; this program only
 // reads (crate reading) and writes (crate reporting), and keeps no more than the table, the tally and 64 KB of the log. With a second word as its argument, standard error is a terminal, and a line there
 // counts the records while they are read.
+#![tactic(auto)]
+
 ghost use Rattle.std.specs.Prelude.{◌^◌};
 ghost use Rattle.feeding.specs.Feed.{started};
 ghost use Rattle.hired.specs.Bytes.{SomeHire};

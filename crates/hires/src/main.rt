@@ -7,6 +7,8 @@
 //   4 place of 2 bytes, word            writes a word of the cells; no line
 //   5 place of 2 bytes, word            writes a word of the table; no line
 //   6 row                               the words of the cells of a row
+#![tactic(auto)]
+
 use feeding::Tally;
 use libc::{STDIN_FILENO, STDOUT_FILENO};
 use lines::{end, first, four, front, longs, more, two};
@@ -17,7 +19,7 @@ use tally::Cells;
 const ROW: usize = 512;
 
 // What is kept from case to case beside the words: the limit and the tally.
-#[derive(Drop)]
+#[derive(Clone, Copy)]
 struct Hire {
     limit: u32,
     tally: Tally,

@@ -9,6 +9,8 @@
 //   5 key, and an image              asks it for the key: number, offset, length, edition, the body
 //   6 row of 8 bytes, and an image   asks it for the row: number, source, destination, k, offset, length, edition, the body
 //   7 key, edition                   gives the key that edition; no line
+#![tactic(auto)]
+
 use libc::STDIN_FILENO;
 use lines::{bytes, end, first, four, front, long, more, two};
 use lookup::{Next, Table, WORDS};

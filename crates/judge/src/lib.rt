@@ -1,5 +1,7 @@
 // Judging a map that stands in plain slices of SPNs, starts and widths (01, "A set and its judgement"; 02, Req 04). The slices may have any length and
 // hold anything; what they stand for is `in_slices`. In each search the count says what holds of the positions that were passed.
+#![tactic(auto)]
+
 ghost use Rattle.std.specs.Prelude.{◌≡◌, ◌-◌, ◌%◌, ◌≤◌, ◌<◌, min, max, cond, ltb, length};
 ghost use Rattle.answers.specs.Answers.{said_of};
 ghost use Rattle.words.specs.First.{lowest};
@@ -14,7 +16,7 @@ use answers::Judgement;
 pub const MISSING: u32 = 0xffff_ffff;
 
 // A rule that names a position which all three slices have, in the order of the tests.
-#[derive(Drop)]
+#[derive(Clone, Copy)]
 enum Rule {
     Unknown,
     Repeated,
@@ -345,7 +347,7 @@ fn is_broken(
 }
 
 // What the walk found: the lowest position that it stopped at, or 0, and the largest end of those passed.
-#[derive(Drop)]
+#[derive(Clone, Copy)]
 struct Walked {
     position: u8,
     end: u64,

@@ -1,5 +1,7 @@
 // Saves what a log taught as an image (02, Req 01): the log comes on standard input, the image goes to standard output. All that matters is proved in the crates feeding
 // and save; this program only reads (crate reading) and writes. Where the log can't be read to its end, it writes nothing: an image is whole or not there.
+#![tactic(auto)]
+
 ghost use Rattle.std.specs.Prelude.{◌≤◌};
 
 use libc::STDOUT_FILENO;

@@ -1,5 +1,7 @@
 // One row of the learned table: the words of a key (specs/Row.antt says what each word holds). Every call takes whatever words it is lent: a word past
 // their end is 0, and one stored there is lost, so that none asks for a length.
+#![tactic(auto)]
+
 ghost use Rattle.std.specs.Prelude.{◌≡◌, cond, ◌-◌, ◌≤◌, length, get_or, set, replicate};
 ghost use Rattle.answers.specs.Answers.{plain, outcome};
 ghost use Rattle.keyrow.specs.Row.{key_of, key_number, one_if, form_number, cell_of, words_are};

@@ -1,5 +1,7 @@
 // What the test programs read and write: numbers and lists from standard input, a line of text for each answer; and a line at once, as the programs write whose lines another
 // program sets for a person. No promise can say what is read or written; of each result it says the rest.
+#![tactic(auto)]
+
 ghost use Rattle.std.specs.Prelude.{◌≡◌, ◌+◌, ◌*◌, min, length, replicate};
 ghost use Rattle.io.specs.Counts.{IsPrefixLen};
 

@@ -1,5 +1,7 @@
 // Lists what a log taught (01, "The listing program"): the log comes on standard input, the listing goes to standard output. All that matters is proved in
 // the crates feeding and listing; this program only reads (crate reading) and writes, and keeps no more than the table and the tally.
+#![tactic(auto)]
+
 use feeding::Tally;
 use libc::STDOUT_FILENO;
 use lookup::{Table, WORDS};

@@ -1,5 +1,7 @@
 // Lists what an image holds (02, Req 01): the image comes on standard input, and the listing of a fresh table that has loaded it goes to standard output, as
 // a log's does. All that matters is proved in the crates load and listing. Of a damaged image nothing is listed, and a line on standard error says so.
+#![tactic(auto)]
+
 use libc::{STDERR_FILENO, STDOUT_FILENO};
 use lookup::{Table, WORDS};
 

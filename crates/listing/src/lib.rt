@@ -1,5 +1,7 @@
 // What a log taught, as text (01, "The listing program"): `feeding::start`, then `feeding::feed` for each chunk of the log, then `finish`. The table is lent
 // by the caller.
+#![tactic(auto)]
+
 ghost use Rattle.std.specs.Prelude.{◌≡◌};
 ghost use Rattle.answers.specs.Answers.{at as judgedAt, outcome, in_numbers};
 ghost use Rattle.text.specs.Text.{page, put_all};

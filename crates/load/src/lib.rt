@@ -1,5 +1,7 @@
 // Reading an image of either form as a whole (02, Req 01 and 10): whether it is undamaged, and loading it into an empty table. Any bytes may be asked, of any length; the time
 // that they take is bounded, since at most 255 rows with 31 positions each are heard and comparing stops at the first difference.
+#![tactic(auto)]
+
 ghost use Rattle.std.specs.Prelude.{◌≡◌, cond, not, ◌≤◌, eqb, get_or};
 ghost use Rattle.answers.specs.Answers.{in_numbers, outcome};
 ghost use Rattle.keyrow.specs.Row.{key_of};

@@ -1,6 +1,8 @@
 // Answers a Parameter Locate (002, 5.3.2; 02, Req 03): a tester asks where a parameter stands, and every map of our own address that is usable by its key's edition and has
 // it answers with the Configuration Identification Message of that position, laid as a record into the caller's log. The learned table is lent as words; whatever they
 // hold, the call has its defined answer and leaves them.
+#![tactic(auto)]
+
 ghost use Rattle.std.specs.Prelude.{◌≡◌, ◌+◌, ◌*◌, ◌≤◌, ltb, length, cond};
 ghost use Rattle.answers.specs.Answers.{outcome, in_numbers, plain, done};
 ghost use Rattle.text.specs.Text.{page, put, put_all};
@@ -26,14 +28,14 @@ const PARAMETER_LOCATE: u8 = 175;
 const EVERYBODY: u8 = 255;
 
 // What is asked: an SPN, of our own address.
-#[derive(Drop)]
+#[derive(Clone, Copy)]
 struct Asked {
     own: u8,
     spn: u32,
 }
 
 // Where the held keys, rising, have the SPN: for each its position, 0 where the key does not answer. And how many answer.
-#[derive(Drop)]
+#[derive(Clone, Copy)]
 struct Places {
     positions: [u8; ROWS],
     count: u32,

@@ -6,6 +6,8 @@
 //   3 identifier, length, 8 bytes, own address, length of the log, start
 //                                    what locate answers, its number and detail, and the whole log
 //   4 key, edition                   gives the key that edition; no line
+#![tactic(auto)]
+
 use libc::STDIN_FILENO;
 use lines::{bytes, end, first, four, front, more, two};
 use lookup::{Table, WORDS};

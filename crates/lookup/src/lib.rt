@@ -1,6 +1,8 @@
 // The learned table read: the row of a key, a free row, and the held keys in rising order. The table lies in words that the caller lends, 16 rows of 67
 // (keyrow says what each word holds). The length is in the type, so that no call can be lent too few; whatever the words hold, each call has its
 // defined answer.
+#![tactic(auto)]
+
 ghost use Rattle.std.specs.Prelude.{◌≡◌, cond, not, ◌&&◌, eqb, leb, ltb, length};
 ghost use Rattle.keyrow.specs.Row.{key_of, key_number};
 ghost use Rattle.lookup.specs.Layout.{table_words, slot_of, free_slot};
@@ -22,7 +24,7 @@ pub type Table = [u64; WORDS];
 const KEY_NUMBERS: u64 = 16777216;
 
 // The next held key, or none.
-#[derive(Drop)]
+#[derive(Clone, Copy)]
 pub enum Next {
     Found(Key),
     NoMore,

@@ -1,5 +1,7 @@
 // What a number of an SPN means (02, Req 05): one look-up gives width, resolution, offset and kind, for any SPN; and a number as it was read becomes a number in
 // thousandths of its unit (docs/UNITS.md), with its sign, and its state beside it.
+#![tactic(auto)]
+
 ghost use Rattle.std.specs.Prelude.{◌≡◌, ◌≤◌, ◌^◌, pos, ◌-ℤ◌};
 ghost use Rattle.dictionary.specs.Dictionary.{found_row};
 ghost use Rattle.meaning.specs.Meaning.{slot_in, slot_of, meaning_of, scaled_of};
@@ -9,7 +11,7 @@ use slots::Slot;
 
 // What an SPN's numbers are; all 0 where the dictionary does not have it. Resolution and offset are in thousandths of its unit. C gets it as it is.
 #[repr(C)]
-#[derive(Drop)]
+#[derive(Clone, Copy)]
 pub struct Meaning {
     pub offset: i64, // 0 or below it
     pub resolution: u32, // what one count more adds
@@ -19,7 +21,7 @@ pub struct Meaning {
 
 // A number in thousandths of its unit, and 0 where its state is not 0 (valid) or its kind is 0 (the dictionary does not have the SPN). C gets it as it is.
 #[repr(C)]
-#[derive(Drop)]
+#[derive(Clone, Copy)]
 pub struct Scaled {
     pub value: i64,
     pub kind: u32,

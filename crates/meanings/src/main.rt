@@ -1,5 +1,7 @@
 // Runs what numbers mean on the cases of standard input and writes a line for each. tests/model.py wrote the cases and the lines that must come out. A case is an SPN and
 // a number, four bytes each, the least significant first; its line is the SPN's width, resolution, offset and kind, and the number's state and its value in thousandths.
+#![tactic(auto)]
+
 use libc::STDOUT_FILENO;
 use lines::{end, four, more};
 

@@ -1,4 +1,6 @@
 // What one Configuration Identification Message says (01, "What one message says"; docs/WIRE.md has 002's words).
+#![tactic(auto)]
+
 ghost use Rattle.std.specs.Prelude.{◌≡◌, ◌*◌, ◌-◌, ◌^◌, not, eqb};
 ghost use Rattle.frame.specs.Frame.{pgn_of};
 ghost use Rattle.message.specs.Message.{wire_of, foreign, unflagged, miscounted, misplaced, served_tests, frame_tests, data_tests, message_of, heard_of, heard_from, heard};
@@ -7,7 +9,7 @@ ghost use Rattle.answers.specs.Tests.{first_number_of};
 use frame::{Fields, Three, pick8};
 
 // Whom a message names: k is the number of the configurable message, 1 to 15.
-#[derive(Drop)]
+#[derive(Clone, Copy)]
 pub struct Key {
     pub source: u8,
     pub destination: u8,
@@ -15,7 +17,7 @@ pub struct Key {
 }
 
 // What it says of the whole map.
-#[derive(Drop)]
+#[derive(Clone, Copy)]
 pub struct Head {
     pub n: u8,
     pub proprietary: bool,
@@ -23,14 +25,14 @@ pub struct Head {
 }
 
 // What it says of one position; the start counts from 0.
-#[derive(Drop)]
+#[derive(Clone, Copy)]
 pub struct Place {
     pub spn: u32,
     pub start: u32,
 }
 
 // A well_formed message, its fields grouped by how they are compared.
-#[derive(Drop)]
+#[derive(Clone, Copy)]
 pub struct Message {
     pub key: Key,
     pub head: Head,
@@ -39,14 +41,14 @@ pub struct Message {
 }
 
 // A refusal, 1 to 8, or the message.
-#[derive(Drop)]
+#[derive(Clone, Copy)]
 pub enum Decoded {
     Refused(u8),
     Taken(Message),
 }
 
 // The fields of the eight bytes, as they stand on the wire.
-#[derive(Drop)]
+#[derive(Clone, Copy)]
 pub struct Wire {
     pub pgn: u32, // bytes 1 to 3
     pub spn: u32, // bytes 4 to 6, 19 bits

@@ -1,5 +1,7 @@
 // A key's map in hand: one call opens it for every room that asks about a key. The learned table is lent as words; whatever they hold, the call has its
 // defined answer and leaves them. The SPNs, starts and widths go into arrays that the caller lends, one number for each position from 1 to n.
+#![tactic(auto)]
+
 ghost use Rattle.std.specs.Prelude.{◌≡◌, cond, ◌≤◌, eqb, length};
 ghost use Rattle.words.specs.First.{any};
 ghost use Rattle.answers.specs.Answers.{said_of, at};
@@ -16,7 +18,7 @@ use lookup::Table;
 
 // What opening a key's map gives: 11, or 0 with the judgement; the judgement of what its row holds, which of a key in conflict is that of the map before the contradiction; n and the flags, all 0 where the
 // key is not held.
-#[derive(Drop)]
+#[derive(Clone, Copy)]
 pub struct Opened {
     pub answer: Answer,
     pub was: Judgement,

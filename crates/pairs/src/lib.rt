@@ -1,5 +1,7 @@
 // The filter of a port pair, by the pair's number, in memory that the caller lends (01, "Port pairs"): specs/Pairs.antt says what a pair is
 // and does, specs/Row.antt where its words stand. Words that no command wrote are answered too: nothing here can trap.
+#![tactic(auto)]
+
 ghost use Rattle.std.specs.Prelude.{◌≡◌, ◌≤◌, ◌<◌, length};
 ghost use Rattle.pairs.specs.Pairs.{ill_formed, passes};
 ghost use Rattle.pairs.specs.Row.{mode_in, count_in, entry_in, noted, row_obeys, obeys_at, passes_at};
@@ -17,7 +19,7 @@ pub const WORDS: usize = 408;
 pub const ROOM: usize = 32;
 
 // What changes a pair.
-#[derive(Drop)]
+#[derive(Clone, Copy)]
 pub enum Command {
     Add(u32),
     Delete(u32),

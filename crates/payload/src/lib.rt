@@ -1,5 +1,7 @@
 // Packing and reading a configured payload (01, "Payload bits"). This room knows the starts, widths and numbers of a map as lists, and no message and no
 // judgement. A payload of eight bytes, which most are, is packed and read as one number; any other one byte by byte.
+#![tactic(auto)]
+
 ghost use Rattle.std.specs.Prelude.{◌≡◌, true, ℕ, ◌≤◌, ◌<◌, length, get_or};
 ghost use Rattle.places.specs.Place.{size_of, unplaced_in, end_placed};
 ghost use Rattle.bits.specs.Bits.{bit, bytes_with};
@@ -8,7 +10,7 @@ ghost use Rattle.payload.specs.Calls.{left, needs_more, too_wide_in, packing, re
 
 // What pack and read answer: done, with L or n; the lowest position that has no place; a wrong length; the lowest position whose number needs more than its
 // width.
-#[derive(Drop)]
+#[derive(Clone, Copy)]
 pub enum Laying {
     Done(u32),
     Unplaced(u8),
@@ -105,7 +107,7 @@ fn may_be_short(starts: &[u32], widths: &[u32]) -> bool
 }
 
 // A payload of eight bytes as one number, where it is done.
-#[derive(Drop)]
+#[derive(Clone, Copy)]
 struct Short {
     done: bool,
     word: u64,

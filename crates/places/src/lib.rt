@@ -1,5 +1,7 @@
 // Where the parameters of a map stand in its payload: ends, shared bits, L, and positions that have no place (01, "Payload bits" and "A set and its
 // judgement"; 02, Req 04). This room knows starts and widths, and no byte and no message. Its slices may have any length and hold anything.
+#![tactic(auto)]
+
 ghost use Rattle.std.specs.Prelude.{◌≡◌, true, false, ◌+◌, ◌*◌, ◌/◌, ◌^◌, ◌<◌, max, get_or};
 ghost use Rattle.places.specs.Place.{odd, skipped, place, end_of, meet, shares_bit, bytes_for, lacks_place, unplaced_in, end_placed};
 
@@ -106,7 +108,7 @@ fn lacks_place(i: usize, start: u32, width: u32) -> bool
 }
 
 // What one walk over a map finds: the lowest position without a place, or 0, and the largest end, or 0 where a position has no place.
-#[derive(Drop)]
+#[derive(Clone, Copy)]
 pub struct Measured {
     pub unplaced: u8,
     pub end: u64,

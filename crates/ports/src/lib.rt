@@ -1,5 +1,7 @@
 // The message filter of a bridge for four ports, in memory that the caller lends (01, "Port pairs"): a call names two ports, and the room `pairs`
 // answers it from the row of their pair. specs/Filters.antt says what each call answers and leaves.
+#![tactic(auto)]
+
 ghost use Rattle.std.specs.Prelude.{◌≡◌, length};
 ghost use Rattle.answers.specs.Answers.{in_numbers, outcome};
 ghost use Rattle.ports.specs.Filters.{two_ports, pair_of, fresh_words, commanded, decided};

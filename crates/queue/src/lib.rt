@@ -1,6 +1,8 @@
 // The queue of a port (02, Req 09: "Frames of higher priority leave first, equal ones in order of arrival (004, 4.4)", "each holds 64"), in words that the caller lends: 65 for each port, the
 // count and then the waiting frames in the order in which they came, a word for each (specs/Row.antt). Whatever the words hold, each call has its defined answer: a count above 64
 // is read as 64, and no index goes by any other word.
+#![tactic(auto)]
+
 ghost use Rattle.std.specs.Prelude.{◌≡◌, cond, ◌≤◌, ◌<◌, length};
 ghost use Rattle.queue.specs.Queue.{place};
 ghost use Rattle.queue.specs.Row.{word_of, from_in, id_in, priority_in, count_in, waiting_in, how_many, closed_up, entered, row_enters, enters_at, left_with, row_leaves, leaves_at, waiting_at};
@@ -15,7 +17,7 @@ pub const WIDTH: usize = 65;
 const NONE_YET: usize = 8;
 
 // What leaves a port: whether a frame waited there, and its word, 0 where none did.
-#[derive(Drop)]
+#[derive(Clone, Copy)]
 pub struct Left {
     pub any: bool,
     pub word: u64,

@@ -1,5 +1,7 @@
 // What the programs that a person starts read with: standard input into a buffer, or to its end as a log that a table learns from; and the word that all is done.
 // No promise can say which bytes came.
+#![tactic(auto)]
+
 ghost use Rattle.io.specs.Counts.{IsPrefixLen};
 ghost use Rattle.feeding.specs.Feed.{started};
 ghost use Rattle.reading.specs.Bytes.{SomeBytes};
@@ -46,7 +48,7 @@ fn again(what: &[u8]) -> bool {
 // ---- into a buffer
 
 // What reading has come to: so many bytes at the start of a buffer, whether more may follow, and whether no read has failed.
-#[derive(Drop)]
+#[derive(Clone, Copy)]
 pub struct Chunk {
     pub n: usize,
     pub more: bool,
@@ -96,7 +98,7 @@ pub fn fill(buffer: &mut [u8], what: &[u8]) -> Chunk
 // ---- a log
 
 // A log that is read, up to here: its tally, whether more may follow, and whether no read has failed.
-#[derive(Drop)]
+#[derive(Clone, Copy)]
 pub struct Taken {
     pub tally: Tally,
     pub more: bool,

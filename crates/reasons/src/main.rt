@@ -2,6 +2,8 @@
 // input. All that matters is proved in the crates that are called.
 //   no RECORD ANSWER SOURCE DESTINATION PGN    a record, counted from 1, and its answer: 1, 3 to 9 or 10; source and destination by its identifier, the PGN in its first data bytes
 //   end RECORDS OTHER LEFT                     how many records there are, how many of another PGN (answer 2), and the bytes of a cut last one: with this line the facts are whole
+#![tactic(auto)]
+
 use lookup::{Table, WORDS};
 use record::SIZE;
 
@@ -9,7 +11,7 @@ use record::SIZE;
 const ROOM: usize = 65520;
 
 // What there is to tell of the records up to here: how many there are, how many of another PGN, and whether every line was written.
-#[derive(Drop)]
+#[derive(Clone, Copy)]
 struct Told {
     records: u64,
     other: u64,
@@ -17,7 +19,7 @@ struct Told {
 }
 
 // The same of a log that is read, with the bytes of a record that is not whole, whether more may follow, and whether no read has failed.
-#[derive(Drop)]
+#[derive(Clone, Copy)]
 struct Log {
     told: Told,
     left: usize,

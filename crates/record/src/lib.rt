@@ -1,5 +1,7 @@
 // The 13 bytes of a record of a log (01, "The listing program"): identifier least significant byte first, length, 8 data bytes. And what a log that comes
 // in chunks needs: the bytes of a cut record, carried from one chunk to the next.
+#![tactic(auto)]
+
 ghost use Rattle.std.specs.Prelude.{◌≡◌, ◌++◌, ◌≤◌, length};
 ghost use Rattle.answers.specs.Answers.{outcome, in_numbers};
 ghost use Rattle.record.specs.Record.{four_of, record_in, bytes_of, written};
@@ -13,7 +15,7 @@ use answers::Answer;
 pub const SIZE: usize = 13;
 
 // A frame as a log has it.
-#[derive(Drop)]
+#[derive(Clone, Copy)]
 pub struct Record {
     pub id: u32,
     pub len: u8,
@@ -104,7 +106,7 @@ pub fn joined(carry: &[u8], more: &[u8]) -> [u8; SIZE]
 }
 
 // How far a record is begun: so many of its bytes are there, and the last `taken` of them are the first of a chunk.
-#[derive(Drop)]
+#[derive(Clone, Copy)]
 pub struct Begun {
     pub left: usize,
     pub taken: usize,

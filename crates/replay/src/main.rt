@@ -1,5 +1,7 @@
 // Replays a day through the bridge (02, Req 09): the trace comes on standard input, what came of it goes to standard output. All that matters is proved in the crates trace, bridge and
 // replaying; this program only reads (crate reading) and writes, and keeps no more than counters, queues, filters and the tally, however long the trace is.
+#![tactic(auto)]
+
 ghost use Rattle.bridge.specs.Bridge.{bridge};
 ghost use Rattle.replaying.specs.Feed.{started};
 ghost use Rattle.replay.specs.Bytes.{SomeTrace};
@@ -10,7 +12,7 @@ use ports::{Filters, WORDS};
 use replaying::Tally;
 
 // A trace that is read, up to here: its tally, whether more may follow, and whether no read has failed.
-#[derive(Drop)]
+#[derive(Clone, Copy)]
 struct Taken {
     tally: Tally,
     more: bool,

@@ -1,5 +1,7 @@
 // A day replayed through the bridge (02, Req 09): each record of a trace is a frame, a slot or a command of the fitter, and what came of them is written as text. The trace comes in chunks of
 // any size, cut anywhere: `start`, then `feed` for each chunk, then `finish`. Counters, queues and filters are lent by the caller, and nothing else is kept but the tally.
+#![tactic(auto)]
+
 ghost use Rattle.std.specs.Prelude.{◌≡◌};
 ghost use Rattle.answers.specs.Answers.{outcome, in_numbers};
 ghost use Rattle.text.specs.Text.{page, put_all};
@@ -20,7 +22,7 @@ pub const PAGE: usize = 2304;
 
 // What is counted of a trace's records, each modulo 2^64. (`repr(C)`: firmware hands these two to C as they are.)
 #[repr(C)]
-#[derive(Drop)]
+#[derive(Clone, Copy)]
 pub struct Counts {
     pub events: u64, // all records
     pub frames: u64,
@@ -32,7 +34,7 @@ pub struct Counts {
 
 // What is kept from chunk to chunk: the counts, and the first `left` bytes of a record that is not whole yet, with 0 behind them.
 #[repr(C)]
-#[derive(Drop)]
+#[derive(Clone, Copy)]
 pub struct Tally {
     pub counts: Counts,
     pub left: usize,

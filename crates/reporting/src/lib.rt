@@ -1,4 +1,6 @@
 // The report of a hire written to standard output, page after page: what the programs `hired` and `hires` write with. No promise can say what is written; what a page holds is promised by report and listing.
+#![tactic(auto)]
+
 use feeding::Tally;
 use libc::STDOUT_FILENO;
 use lookup::{Next, ROWS, Table};

@@ -1,6 +1,8 @@
 // The rows of the dictionary as a const table: each SPN that 002 defines with a fixed length of 1 to 32 bits, once, in rising order, with its width
 // (01, "A set and its judgement"; 002, Appendix C and 5.3); and beside it those of the older paper, 000 (02, Req 10). tools/rowscheck compares them with the texts. The
 // crate is slow to check, so it holds the tables alone; their rule is tested in the crate rowrule, and the look-up is the crate dictionary's.
+#![tactic(auto)]
+
 ghost use Rattle.std.specs.Prelude.{◌≡◌};
 ghost use Rattle.rowrule.specs.Rows.{pairs, pairs2004};
 

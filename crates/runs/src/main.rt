@@ -19,6 +19,8 @@
 //   15 chunks, buffer                what the listing of a log in chunks answers, and the whole buffer as text
 //   16 key, edition                  what set_edition answers
 //   17 key                           the key's edition
+#![tactic(auto)]
+
 mod asks;
 mod editions;
 mod filters;

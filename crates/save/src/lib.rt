@@ -1,5 +1,7 @@
 // Saving a learned table as an image (02, Req 01 and 10), straight into the caller's buffer. Each key is judged once; whatever the words hold, each call has its defined
 // answer.
+#![tactic(auto)]
+
 ghost use Rattle.std.specs.Prelude.{◌≡◌, cond, [], ◌∷◌, ◌≤◌, length};
 ghost use Rattle.answers.specs.Answers.{in_numbers, outcome};
 ghost use Rattle.splice.specs.Splice.{laid};
@@ -185,7 +187,7 @@ fn bit(b: bool) -> u8
 }
 
 // Which of the keys of a walk are saved, how many they are, and how long their bodies are together.
-#[derive(Drop)]
+#[derive(Clone, Copy)]
 struct Chosen {
     marks: [u8; ROWS],
     count: u8,

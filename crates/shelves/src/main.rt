@@ -3,6 +3,8 @@
 //   key SOURCE DESTINATION K JUDGEMENT POSITION N TRANSPORT EDITION    a held key, rising, with its judgement and the position that this names; N and TRANSPORT (1 yes) are 0 in conflict
 //   at POSITION SPN START WIDTH                                        what stands at a position of the key above; the width is 0 where the key's edition does not have the SPN
 //   end RECORDS REFUSED OTHER LEFT                                     the counts of the listing, all 0 for an image: with this line the facts are whole
+#![tactic(auto)]
+
 use feeding::Tally;
 use keyrow::POSITIONS;
 use libc::STDERR_FILENO;

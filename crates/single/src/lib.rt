@@ -1,5 +1,7 @@
 // A payload of one frame: its eight bytes as one number, out of which a parameter's number is cut by a shift and a mask, and into which it is laid by them.
 // What comes out is what `bits` reads from the bytes, and what is laid is what `bits` lays into them.
+#![tactic(auto)]
+
 ghost use Rattle.std.specs.Prelude.{◌≡◌, true, false, cond, ℕ, ◌+◌, ◌-◌, ◌^◌, ◌≤◌, ◌<◌, eqb, length};
 ghost use Rattle.places.specs.Place.{odd, place, end_of};
 ghost use Rattle.bits.specs.Bits.{bit, run_at};

@@ -1,10 +1,12 @@
 // What a count of a number stands for: resolution and offset of each row of the dictionary, in thousandths of 002's unit (02, Req 05). The rows share a few pairs, so
 // a row has the number of its pair. tools/unitscheck compares both tables with docs/UNITS.md and 002's text.
+#![tactic(auto)]
+
 ghost use Rattle.std.specs.Prelude.{◌≡◌};
 ghost use Rattle.slots.specs.Slots.{slot, column, pairs, slot_at};
 
 // A resolution, and how far its offset lies below 0: no offset of 002 is above it.
-#[derive(Drop)]
+#[derive(Clone, Copy)]
 pub struct Slot {
     pub resolution: u32,
     pub below: u32,

@@ -1,4 +1,6 @@
 // Bytes laid into a lent buffer, from a given byte on and nowhere else.
+#![tactic(auto)]
+
 ghost use Rattle.std.specs.Prelude.{◌≡◌, ◌++◌, ◌+◌, min};
 ghost use Rattle.splice.specs.Splice.{covered, fits, laid};
 

@@ -1,5 +1,7 @@
 // Whether a number that was read is a measurement (02, Req 05). Drivers read 255 as a pressure: J1939-71 keeps the top of a parameter's range for "reserved",
 // "error" and "not available". Which of these a number is goes by the width of its parameter alone.
+#![tactic(auto)]
+
 ghost use Rattle.std.specs.Prelude.{◌≡◌, ◌<◌};
 ghost use Rattle.states.specs.States.{by_byte, by_two_bits, kind_of, state_by, state_of, states_over};
 

@@ -1,5 +1,7 @@
 // The learned table in words that the caller lends: learning from a frame, forgetting a key, making it empty; and, from the rooms below, how it is read
 // (lookup) and what a row holds (keyrow). Whatever the words hold, each call has its defined answer.
+#![tactic(auto)]
+
 ghost use Rattle.std.specs.Prelude.{◌≡◌, ◌<◌, length, replicate};
 ghost use Rattle.answers.specs.Answers.{in_numbers, plain, outcome};
 ghost use Rattle.history.specs.History.{most_keys};

@@ -1,5 +1,7 @@
 // Text in a lent page, one piece after another: bytes as they are, and numbers in decimal (01, "The listing program": "All numbers are decimal"). A text that is whole is handed out
 // at once.
+#![tactic(auto)]
+
 ghost use Rattle.std.specs.Prelude.{◌≡◌, [], ◌∷◌, ◌≤◌, drop};
 ghost use Rattle.answers.specs.Answers.{outcome, in_numbers};
 ghost use Rattle.text.specs.Text.{decimal_of, page, put, put_all, handed};
@@ -7,7 +9,7 @@ ghost use Rattle.text.specs.Text.{decimal_of, page, put, put_all, handed};
 use answers::Answer;
 
 // The digits of a number: the bytes from `from` on.
-#[derive(Drop)]
+#[derive(Clone, Copy)]
 struct Digits {
     bytes: [u8; 20],
     from: usize,

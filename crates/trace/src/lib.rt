@@ -1,5 +1,7 @@
 // The records of a trace (02, Req 09; docs/DECISIONS.md): 14 bytes each, a first byte that says what it is, and 13 more. And what a trace that comes in chunks needs: the bytes of a cut record,
 // carried from one chunk to the next.
+#![tactic(auto)]
+
 ghost use Rattle.std.specs.Prelude.{◌≡◌, ◌++◌, ◌≤◌};
 ghost use Rattle.record.specs.Sized.{held_by, padded_by};
 ghost use Rattle.trace.specs.Entry.{entry_in};
@@ -8,7 +10,7 @@ ghost use Rattle.trace.specs.Entry.{entry_in};
 pub const SIZE: usize = 14;
 
 // What a record says: a frame with this identifier came in at a port; a slot of a port; a command of the fitter to a pair; or nothing of these.
-#[derive(Drop)]
+#[derive(Clone, Copy)]
 pub enum Entry {
     Frame(u8, u32),
     Slot(u8),

@@ -1,6 +1,8 @@
 // The transport protocol's long messages put together (02, Req 14; J1939-21): a request to send opens the session of its source and destination, and each packet
 // brings seven bytes, until the last one hands the payload out. Eight sessions lie in memory that the caller lends, their head words and 1,785 bytes for each
 // (specs/Rows.antt). Whatever that memory holds, each call has its defined answer: a word is compared before it is used, and no index goes by one.
+#![tactic(auto)]
+
 ghost use Rattle.std.specs.Prelude.{◌≡◌, ◌+◌, ◌*◌, ◌-◌, ◌^◌, ◌≤◌, ◌<◌, length, take};
 ghost use Rattle.words.specs.Rows.{row_at, put_at};
 ghost use Rattle.answers.specs.Answers.{in_numbers, plain, outcome};
@@ -56,7 +58,7 @@ const PACKET_PF: u8 = 235;
 const TO_SEND: u8 = 16;
 
 // What a packet is answered, and beside it the PGN of the payload that it finished, 0 where it finished none.
-#[derive(Drop)]
+#[derive(Clone, Copy)]
 pub struct Arrived {
     pub answer: Answer,
     pub pgn: u32,

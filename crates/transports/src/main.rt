@@ -6,6 +6,8 @@
 //   3, and 1,785 bytes behind it     the lent buffer holds these; no line
 //   4                                the whole lent buffer
 //   5 place, word of 8 bytes         writes a head word; no line
+#![tactic(auto)]
+
 use libc::STDIN_FILENO;
 use lines::{bytes, end, first, four, front, more, two};
 use transport::{BYTES, Bytes, Heads, MOST, Payload, WORDS};

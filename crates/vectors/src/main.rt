@@ -13,6 +13,8 @@
 //   9 starts, widths, numbers        what pack answers, and the whole buffer, filled by a seed before the call
 //   10 the same, and a payload       what read answers, and the whole room, which held those numbers before the call
 //   11 SPN, edition                  its width in that edition
+#![tactic(auto)]
+
 mod lists;
 mod rooms;
 

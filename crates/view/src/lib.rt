@@ -1,11 +1,13 @@
 // A small view of an image (02, Req 01): "Other programs walk the image through a small view that holds the image and a row number". Each function takes the view apart
 // and calls the function of room contents on the slice and the number.
+#![tactic(auto)]
+
 ghost use Rattle.std.specs.Prelude.{◌≡◌};
 ghost use Rattle.image.specs.Part.{row_key, row_body, row_offset, row_next, PartOf};
 
 use message::Key;
 
-#[derive(Drop)]
+#[derive(Clone, Copy)]
 pub struct View<'a> {
     pub image: &'a [u8],
     pub row: usize,

@@ -1,5 +1,7 @@
 // A message as a frame says it: the identifier and the eight data bytes of its Configuration Identification Message (002, 5.3.1; docs/WIRE.md), and its record
 // in a log. The other way of message::decode. A message's numbers may be any: each is cut to the bits that it has on the wire.
+#![tactic(auto)]
+
 ghost use Rattle.std.specs.Prelude.{◌≡◌, [], ◌∷◌, ◌≤◌};
 ghost use Rattle.answers.specs.Answers.{outcome, in_numbers};
 ghost use Rattle.record.specs.Record.{written};

@@ -60,8 +60,8 @@ returns-3 c =
     let d = q.before in
     let row = d.before.row_of.result.now in
     let p = d.before.before.args.position in
-    stands_here (width_row row) row p _ q.cell_at.ensures _ n.before.if2.false c.plainly3.ensures _ _ _ n.spn-of.ensures s.start_of_lem.ensures
-    (w.width_of_lem.ensures ∙ ap (λ (x : ℕ). width_by x n.spn-of.result) v.edition-of.ensures)
+    stands_here (width_row row) row p _ q.cell_at.ensures _ n.before.if2.false c.plainly3.ensures _ _ _ n.spn-of.ensures s.start_of.ensures
+    (w.width_of.ensures ∙ ap (λ (x : ℕ). width_by x n.spn-of.result) v.edition-of.ensures)
     ∙ its d p
 
 pub parameter-at-spec : {M : Type 1} → statement M

@@ -8,10 +8,10 @@ returns : tie.Need-returns
 returns c = ready_11 _ c.if1.true
 
 returns-2 : tie.Need-returns-2
-returns-2 c = ready_12 _ _ _ c.before.before.before.if1.false c.before.before.number_of_lem.ensures c.before.if2.true c.not-usable.ensures
+returns-2 c = ready_12 _ _ _ c.before.before.before.if1.false c.before.before.number_of.ensures c.before.if2.true c.not-usable.ensures
 
 returns-3 : tie.Need-returns-3
-returns-3 c = ready_0 _ _ _ c.before.before.before.if1.false c.before.before.number_of_lem.ensures c.before.if2.false c.plainly.ensures
+returns-3 c = ready_0 _ _ _ c.before.before.before.if1.false c.before.before.number_of.ensures c.before.if2.false c.plainly.ensures
 
 pub ready-spec : {M : Type 1} → statement M
 ready-spec = tie.close (tie.spec returns (λ c κs. search rules) (λ c κs. search rules) returns-2 (λ c κs. search rules) returns-3)

@@ -9,18 +9,18 @@ use Rattle.bits.proofs.get_odd.Tie as tie
 fetch-odd-requires : tie.Need-fetch-odd-requires
 fetch-odd-requires c κs =
     let s = c.before.before.before in
-    let l = lies _ s.args.start s.args.width (sym c.before.lies_in_lem.ensures ∙ c.if1.true) in
+    let l = lies _ s.args.start s.args.width (sym c.before.lies_in.ensures ∙ c.if1.true) in
     (s.requires, l.0, l.1)
 
 returns : tie.Need-returns
 returns c =
     let a = c.before.before.before.before.args in
     c.fetch-odd.ensures
-    ∙ sym (number_read a.payload.now a.start a.width (sym c.before.before.lies_in_lem.ensures ∙ c.before.if1.true))
+    ∙ sym (number_read a.payload.now a.start a.width (sym c.before.before.lies_in.ensures ∙ c.before.if1.true))
 
 returns-2 : tie.Need-returns-2
 unfolding number_in
-returns-2 c = rw (← c.before.lies_in_lem.ensures, c.if1.false)
+returns-2 c = rw (← c.before.lies_in.ensures, c.if1.false)
 
 pub get-odd-spec : {M : Type 1} → statement M
 get-odd-spec = tie.close (tie.spec (λ c κs. search rules) fetch-odd-requires returns returns-2)

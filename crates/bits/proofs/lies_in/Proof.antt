@@ -9,8 +9,8 @@ use borrow.Author.Tests.{le-leb, lt-leb}
 use lib.Dec.{leb}
 use Rattle.places.proofs.Place.{end_most}
 use Rattle.bits.specs.Bits.{lies_in}
-use Rattle.bits.proofs.lies_in_lem.Statement.{statement}
-use Rattle.bits.proofs.lies_in_lem.Tie as tie
+use Rattle.bits.proofs.lies_in.Statement.{statement}
+use Rattle.bits.proofs.lies_in.Tie as tie
 
 up : (e n : ℕ) → leb ((e + 7) / 8) n ≡ leb e (8 * n)
 up e n =

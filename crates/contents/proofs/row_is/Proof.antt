@@ -3,8 +3,8 @@ use borrow.Author.Rules.{rules}
 use Rattle.keyrow.specs.Row.{key_of}
 use Rattle.image.specs.Read.{key_at}
 use Rattle.contents.proofs.Rows.{same_key_lem}
-use Rattle.contents.proofs.row_is_lem.Statement.{statement}
-use Rattle.contents.proofs.row_is_lem.Tie as tie
+use Rattle.contents.proofs.row_is.Statement.{statement}
+use Rattle.contents.proofs.row_is.Tie as tie
 
 returns : tie.Need-returns
 returns c =

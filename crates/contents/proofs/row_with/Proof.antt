@@ -27,14 +27,14 @@ loop-holds c = (omega arith, below_none _)
 seen : (c : tie.After-row-is invariant-loop decreases-loop) →
     let b = c.before in
     let a = b.before.before.before.before.before.before.args in
-    same_key (key_at a.image.now (row_place a.image.now b.before.before.loop.i)) (key_of a.source a.destination a.k) ≡ c.row_is_lem.result
+    same_key (key_at a.image.now (row_place a.image.now b.before.before.loop.i)) (key_of a.source a.destination a.k) ≡ c.row_is.result
 seen c =
     let b = c.before in
     let l = b.before.before in
     let f = l.before.before in
     let a = f.before.before.args in
     let q = b.behind.ensures.0 ∙ ap (λ (x : ℕ). behind x l.loop.i) f.form_of.ensures in
-    sym (c.row_is_lem.ensures ∙ ap (λ (r : ℕ). same_key (key_at a.image.now r) (key_of a.source a.destination a.k)) q)
+    sym (c.row_is.ensures ∙ ap (λ (r : ℕ). same_key (key_at a.image.now r) (key_of a.source a.destination a.k)) q)
 
 returns : tie.Need-returns invariant-loop decreases-loop
 unfolding row_with

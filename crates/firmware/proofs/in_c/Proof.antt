@@ -5,7 +5,7 @@ use Rattle.firmware.proofs.in_c.Statement.{statement}
 use Rattle.firmware.proofs.in_c.Tie as tie
 
 returns : tie.Need-returns
-returns c = simp (c.before.number_of_lem.ensures, c.position-of.ensures)
+returns c = simp (c.before.number_of.ensures, c.position-of.ensures)
 
 pub in-c-spec : {M : Type 1} → statement M
 in-c-spec =

@@ -1,8 +1,8 @@
 -- `row_fits_lem`: the two words that it reads are those of the definition. Assumes nothing.
 use borrow.Author.Rules.{rules}
 use Rattle.keyrow.specs.Learn.{numbers_fit}
-use Rattle.keyrow.proofs.row_fits_lem.Statement.{statement}
-use Rattle.keyrow.proofs.row_fits_lem.Tie as tie
+use Rattle.keyrow.proofs.row_fits.Statement.{statement}
+use Rattle.keyrow.proofs.row_fits.Tie as tie
 
 returns : tie.Need-returns
 unfolding numbers_fit

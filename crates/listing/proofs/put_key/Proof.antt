@@ -10,7 +10,7 @@ returns c =
     let b = c.before.before.before.before in
     let a = b.before.before.before.before.before.args in
     line_laid _ _ a.key (edition_in a.t.now a.key) (map_in a.t.now a.key) _ _ _ b.before.before.judge.result b.before.before.before.count.ensures
-    b.before.before.judge.ensures b.before.number_of_lem.ensures b.position-of.ensures c.before.before.put-line.ensures
+    b.before.before.judge.ensures b.before.number_of.ensures b.position-of.ensures c.before.before.put-line.ensures
 
 pub put-key-spec : {M : Type 1} → statement M
 put-key-spec =

@@ -25,7 +25,7 @@ returns-2 c =
     let a = k.before.before.args in
     in_room (located (width_for a.t.now) a.t.now a.asked.own a.asked.spn) a.log.now a.start k.look-all.result.count
     (k.look-all.ensures.1 ∙ sym (told-count (width_for a.t.now) a.t.now a.asked.own a.asked.spn)) _ (sym s.is-short.ensures ∙ i.if1.false) c.with-detail.ensures
-    _ p.put_all_lem.ensures
+    _ p.put_all.ensures
 
 pub answer-all-spec : {M : Type 1} → statement M
 answer-all-spec =

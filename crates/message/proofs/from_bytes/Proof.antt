@@ -5,7 +5,7 @@ use Rattle.message.proofs.from_bytes.Statement.{statement}
 use Rattle.message.proofs.from_bytes.Tie as tie
 
 returns : tie.Need-returns
-returns c = simp (c.before.before.before.before.before.rest_of.ensures, c.before.before.before.before.before.before.spn-of.ensures, c.before.before.before.before.before.before.before.before.before.before.number_of_lem.ensures)
+returns c = simp (c.before.before.before.before.before.rest_of.ensures, c.before.before.before.before.before.before.spn-of.ensures, c.before.before.before.before.before.before.before.before.before.before.number_of.ensures)
 
 pub from-bytes-spec : {M : Type 1} → statement M
 from-bytes-spec =

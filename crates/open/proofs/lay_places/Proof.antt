@@ -37,7 +37,7 @@ loop-again c =
       search rules,
       search rules,
       turn spn_in a.row.now a.spns.now _ l.loop.i _ (search rules) (omega arith) l.loop.invariant.3 (c.before.spn-of.ensures ∙ spn_there_lem (width_row a.row.now) (place_of (get_or a.row.now (3 + l.loop.i) 0))),
-      turn start_in a.row.now a.starts.now _ l.loop.i _ (search rules) (omega arith) l.loop.invariant.4 (c.start_of_lem.ensures ∙ start_there_lem (width_row a.row.now) (place_of (get_or a.row.now (3 + l.loop.i) 0))),
+      turn start_in a.row.now a.starts.now _ l.loop.i _ (search rules) (omega arith) l.loop.invariant.4 (c.start_of.ensures ∙ start_there_lem (width_row a.row.now) (place_of (get_or a.row.now (3 + l.loop.i) 0))),
       rw (l.loop.invariant.5, add-one) (sym (any-more (empty_at a.row.now) l.loop.i)),
     )
 

@@ -9,7 +9,7 @@ use Rattle.save.proofs.place_at.Tie as tie
 
 returns : tie.Need-returns
 returns c =
-    place_there (place_of c.before.before.cell-of.result) c.before.spn-of.result c.start_of_lem.result c.before.spn-of.ensures c.start_of_lem.ensures
+    place_there (place_of c.before.before.cell-of.result) c.before.spn-of.result c.start_of.result c.before.spn-of.ensures c.start_of.ensures
     ∙ ap place_or c.before.before.cell-of.ensures
 
 pub place-at-spec : {M : Type 1} → statement M

@@ -19,28 +19,28 @@ returns-4 : tie.Need-returns-4
 returns-4 c =
     let n = c.before.before.before in
     let t = n.before.before.before.before in
-    is-add _ t.before.before.before.if1.false t.before.if2.false t.if3.false _ n.number_of_lem.ensures c.before.before.if4.true
+    is-add _ t.before.before.before.if1.false t.before.if2.false t.if3.false _ n.number_of.ensures c.before.before.if4.true
 
 returns-5 : tie.Need-returns-5
 returns-5 c =
     let i = c.before.before.before in
     let n = i.before in
     let t = n.before.before.before.before in
-    is_delete _ t.before.before.before.if1.false t.before.if2.false t.if3.false _ n.number_of_lem.ensures i.if4.false c.before.before.if5.true
+    is_delete _ t.before.before.before.if1.false t.before.if2.false t.if3.false _ n.number_of.ensures i.if4.false c.before.before.if5.true
 
 returns-6 : tie.Need-returns-6
 returns-6 c =
     let j = c.before.before.before.before in
     let n = j.before.before in
     let t = n.before.before.before.before in
-    is_renew _ t.before.before.before.if1.false t.before.if2.false t.if3.false _ n.number_of_lem.ensures j.before.if4.false j.if5.false c.before.before.before.if6.true
+    is_renew _ t.before.before.before.if1.false t.before.if2.false t.if3.false _ n.number_of.ensures j.before.if4.false j.if5.false c.before.before.before.if6.true
 
 returns-7 : tie.Need-returns-7
 returns-7 c =
     let j = c.before in
     let n = j.before.before in
     let t = n.before.before.before.before in
-    is-other _ t.before.before.before.if1.false t.before.if2.false t.if3.false _ n.number_of_lem.ensures j.before.if4.false j.if5.false c.if6.false
+    is-other _ t.before.before.before.if1.false t.before.if2.false t.if3.false _ n.number_of.ensures j.before.if4.false j.if5.false c.if6.false
 
 pub read_spec : {M : Type 1} → statement M
 read_spec =
