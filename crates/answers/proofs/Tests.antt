@@ -115,14 +115,16 @@ numbers_by number_of (t ∷ ts) = number_of t.answer ∷ numbers_by number_of ts
 pub from_list : {A B : Type 0} (number_of : A → ℕ) (number : B → ℕ) (refuse : A → B) → ((a : A) → number (refuse a) ≡ number_of a) → (ts : List (Test A)) (rest : B)
     → one_of (number (in_order refuse ts rest)) (number rest ∷ numbers_by number_of ts) ≡ true
 from_list number_of number refuse same [] rest = rw (eq-eqb (number rest) (number rest) refl)
-from_list number_of number refuse same (t ∷ ts) rest =
-    by t.applies (λ e. rw (e, same t.answer, eq-eqb (number_of t.answer) (number_of t.answer) refl) (or-true (eqb (number_of t.answer) (number rest))))
-    (λ e. rw e (later (eqb (number (in_order refuse ts rest)) (number rest)) (eqb (number (in_order refuse ts rest)) (number_of t.answer)) _ (from_list number_of number refuse same ts rest)))
+from_list number_of number refuse same (t ∷ ts) rest = go t.applies (from_list number_of number refuse same ts rest)
   where
     later : (a b c : Bool) → (a || c) ≡ true → (a || (b || c)) ≡ true
     later true b c e = refl
     later false true c e = refl
     later false false c e = e
+    go : (b : Bool) → one_of (number (in_order refuse ts rest)) (number rest ∷ numbers_by number_of ts) ≡ true
+        → one_of (number (cond b (refuse t.answer) (in_order refuse ts rest))) (number rest ∷ number_of t.answer ∷ numbers_by number_of ts) ≡ true
+    go true ih = rw (same t.answer, eq-eqb (number_of t.answer) (number_of t.answer) refl) (or-true (eqb (number_of t.answer) (number rest)))
+    go false ih = later (eqb (number (in_order refuse ts rest)) (number rest)) (eqb (number (in_order refuse ts rest)) (number_of t.answer)) _ ih
 
 -- of calls that answer with a record
 pub from-answers : {B : Type 0} (number : B → ℕ) (refuse : Said → B) → ((a : Said) → number (refuse a) ≡ a.number) → (ts : List (Test Said)) (rest : B)

@@ -2,12 +2,8 @@
 -- Assumes nothing.
 use mathlib.Core.Path.{refl}
 use Rattle.rowrule.specs.Rows.{table2004, pairs2004}
-use Rattle.rows.proofs.all_2004.Statement.{statement}
-use Rattle.rows.proofs.all_2004.Tie as tie
+use Rattle.rows.proofs.all_2004.Goals as goal
 
-returns : tie.Need-returns
+pub returns : goal.returns
 unfolding table2004 pairs2004
 returns c = refl
-
-pub all-2004-spec : {M : Type 1} → statement M
-all-2004-spec = tie.close (tie.spec returns)

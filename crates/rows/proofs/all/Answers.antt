@@ -2,12 +2,8 @@
 -- Assumes nothing.
 use mathlib.Core.Path.{refl}
 use Rattle.rowrule.specs.Rows.{table, pairs}
-use Rattle.rows.proofs.all.Statement.{statement}
-use Rattle.rows.proofs.all.Tie as tie
+use Rattle.rows.proofs.all.Goals as goal
 
-returns : tie.Need-returns
+pub returns : goal.returns
 unfolding table pairs
 returns c = refl
-
-pub all-spec : {M : Type 1} → statement M
-all-spec = tie.close (tie.spec returns)
