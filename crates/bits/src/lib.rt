@@ -7,7 +7,7 @@ ghost use Rattle.places.specs.Place.{odd, place, end_of};
 ghost use Rattle.bits.specs.Bits.{bit, bit_at, bit_after, lies_in, with_number, read_number, number_in, run_at, masked};
 
 // Whether a parameter's number has 32 bits at most, and all its places lie in n bytes.
-fn lies_in_lem(n: usize, start: u32, width: u32) -> bool
+fn lies_in(n: usize, start: u32, width: u32) -> bool
     ensures { result ≡ lies_in n start width }
 {
     (width <= 32) & ((places::end_bit(start, width) + 7) / 8 <= n as u64)
@@ -90,7 +90,7 @@ fn put_odd(out: &mut [u8], start: u32, width: u32, value: u32)
     requires { odd width ≡ true }
     ensures { out.new ≡ with_number out.old start width value }
 {
-    if lies_in_lem(out.len(), start, width) {
+    if lies_in(out.len(), start, width) {
         lay_odd(out, start, width, value);
     }
 }
@@ -156,7 +156,7 @@ fn get_odd(payload: &[u8], start: u32, width: u32) -> u32
     requires { odd width ≡ true }
     ensures { result ≡ number_in payload.now start width }
 {
-    if lies_in_lem(payload.len(), start, width) {
+    if lies_in(payload.len(), start, width) {
         return fetch_odd(payload, start, width);
     }
     0

@@ -147,7 +147,7 @@ pub fn row_next(image: &[u8], i: usize) -> usize
 // ---- a row by its key
 
 // Whether the row at byte r has this key.
-fn row_is_lem(image: &[u8], r: usize, source: u8, destination: u8, k: u8) -> bool
+fn row_is(image: &[u8], r: usize, source: u8, destination: u8, k: u8) -> bool
     requires { r ≤ 65536 }
     ensures { result ≡ same_key (key_at image.now r) (key_of source destination k) }
 {
@@ -163,7 +163,7 @@ pub fn row_with(image: &[u8], source: u8, destination: u8, k: u8) -> usize
     let c = byte_at(image, 1);
     let mut i = 0;
     while i < c {
-        if row_is_lem(image, save::behind(form, i), source, destination, k) {
+        if row_is(image, save::behind(form, i), source, destination, k) {
             return i as usize;
         }
         i += 1;

@@ -165,7 +165,7 @@ fn store(row: &mut [u64], i: usize, v: u64)
 // ---- one message more
 
 // Whether the message with these numbers contradicts nothing of the row.
-fn row_fits_lem(row: &[u64], form: u64, p: u8, cell: u64) -> bool
+fn row_fits(row: &[u64], form: u64, p: u8, cell: u64) -> bool
     ensures { result ≡ numbers_fit row.now form p cell }
 {
     let old = word(row, FORM + p as usize);
@@ -179,7 +179,7 @@ pub fn learn_row(row: &mut [u64], form: u64, p: u8, cell: u64) -> u8
     if word(row, STATE) != HELD {
         return 10;
     }
-    if row_fits_lem(row, form, p, cell) {
+    if row_fits(row, form, p, cell) {
         store(row, FORM + p as usize, cell);
         return 0;
     }

@@ -1,0 +1,21 @@
+-- `position_in`: no position passed has the SPN, so the one that stops the search is the lowest. Assumes nothing.
+use Prim.Native.Nat.{◌-◌}
+use mathlib.Core.Path.{refl, sym}
+use mathlib.Core.Bool.{true}
+use borrow.Author.Count.{below_none, below_more}
+use borrow.Author.Rules.{rules}
+use borrow.Author.Tests.{eq-eqb, ne_eqb}
+use Rattle.words.proofs.Lowest.{hit, miss}
+use Rattle.ask.proofs.position_in.Goals as goal
+
+pub loop-i-init : goal.loop-i-init
+loop-i-init c = below_none _
+
+pub returns-then-spns-i : goal.returns-then-spns-i
+returns-then-spns-i c = hit _ _ _ true (search rules) c.loop-i.invariant (sym (eq-eqb _ _ c.if-spns-i.true)) refl
+
+pub loop-i-preserved : goal.loop-i-preserved
+loop-i-preserved c = below_more _ _ c.loop-i.invariant (ne_eqb _ _ c.if-spns-i.false)
+
+pub returns : goal.returns
+returns c = miss _ _ _ c.loop-i-test.false c.loop-i.invariant

@@ -1,0 +1,6 @@
+-- `merge`: bit by bit, from the one or the other. Assumes nothing.
+use Rattle.bits.proofs.Run.{merged}
+use Rattle.bits.proofs.merge.Goals as goal
+
+pub returns : goal.returns
+returns c = merged 8 c.args.old c.args.mask c.args.new j l

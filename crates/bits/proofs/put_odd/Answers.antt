@@ -1,0 +1,21 @@
+-- `put_odd`: bytes are what their bits say. Assumes nothing.
+use mathlib.Core.Path.{sym, ◌∙◌}
+use borrow.Author.Rules.{rules}
+use Rattle.bits.specs.Bits.{with_number}
+use Rattle.bits.proofs.Number.{lies, put-number}
+use Rattle.bits.proofs.put_odd.Goals as goal
+
+pub lay_odd-requires : goal.lay_odd-requires
+lay_odd-requires c =
+    let l = lies _ c.args.start c.args.width (sym c.lies_in_lem.ensures ∙ c.if-lies_in_lem.true) in
+    (c.requires, l.0, l.1)
+
+pub returns-then-lies_in_lem : goal.returns-then-lies_in_lem
+returns-then-lies_in_lem c =
+    let a = c.args in
+    put-number a.out.now c.lay_odd.new.out a.start a.width a.value (sym c.lies_in_lem.ensures ∙ c.if-lies_in_lem.true) (search rules)
+    (λ k. (c.slice_known-then-lies_in_lem-1.given k).fits) c.lay_odd.ensures
+
+pub returns-else-lies_in_lem : goal.returns-else-lies_in_lem
+unfolding with_number
+returns-else-lies_in_lem c = rw (← c.lies_in_lem.ensures, c.if-lies_in_lem.false)

@@ -1,0 +1,59 @@
+-- `dictionary::row_in` meets its contract: the turns that are left lead to where halving all rows leads. The loop's measure is the number of those
+-- turns, so that of n rows it makes no more than `turns n`, 8 of 140 (`table-turns`).
+-- Assumes nothing.
+use Prim.Native.Nat.{ℕ, ◌-◌, ◌/◌}
+use mathlib.Core.Path.{sym, ap, ◌∙◌}
+use mathlib.Core.Bool.{cond}
+use native.Mathlib.Omega.{arith}
+use lib.Dec.{leb}
+use lib.ListN.{length}
+use Rattle.words.proofs.Halve.{turns-halved, leads_all, leads_turn, leads_there}
+use Rattle.rowrule.specs.Rows.{row_in, rows_in}
+use Rattle.rowrule.proofs.Table.{pair-at}
+use Rattle.dictionary.specs.Dictionary.{found_row}
+use Rattle.dictionary.proofs.Lent.{not_below, number_found, halved-nowhere}
+use Rattle.dictionary.proofs.row_in.Goals as goal
+
+pub overflow_sub-hi : goal.overflow_sub-hi
+overflow_sub-hi c = omega (arith, c.requires.0)
+
+pub loop-n-init : goal.loop-n-init
+loop-n-init c =
+    let l = c.requires.0 in
+    (omega (arith, l), omega (arith, l), omega (arith, l), leads_all (not_below c.args.rows.now c.args.spn) (length c.args.rows.now))
+
+pub overflow_sub-row : goal.overflow_sub-row
+overflow_sub-row c = omega arith
+
+pub bounds-rows-hi : goal.bounds-rows-hi
+bounds-rows-hi c = omega arith
+
+pub overflow_sub-hi-in-loop-n : goal.overflow_sub-hi-in-loop-n
+overflow_sub-hi-in-loop-n c = omega arith
+
+pub overflow_sub-n : goal.overflow_sub-n
+overflow_sub-n c = omega arith
+
+pub loop-n-smaller : goal.loop-n-smaller
+loop-n-smaller c = omega (arith, turns-halved c.loop-n.n (omega arith))
+
+pub loop-n-preserved : goal.loop-n-preserved
+loop-n-preserved c =
+    let spn = c.args.spn in
+    let ps = c.args.rows.now in
+    let went = c.step-hi.ensures.0 ∙ ap (λ (x : ℕ). cond (leb spn x) (c.loop-n.n / 2) 0) (c.wide.ensures ∙ (pair-at ps (c.loop-n.hi - c.loop-n.n / 2)).0) in
+    (omega arith, omega arith, omega arith, leads_turn (not_below ps spn) (length ps) c.loop-n.hi c.loop-n.n _ (omega arith) (ap (λ (x : ℕ). c.loop-n.hi - x) went) c.loop-n.invariant.3)
+
+pub returns-then-wide-spn : goal.returns-then-wide-spn
+unfolding found_row
+returns-then-wide-spn c =
+    let ps = c.args.rows.now in
+    number_found ps c.requires c.args.spn c.loop-n.hi c.loop-n.invariant.2 (sym (c.wide-2.ensures ∙ (pair-at ps c.loop-n.hi).0) ∙ c.if-wide-spn.true)
+
+pub returns : goal.returns
+unfolding found_row
+returns c =
+    let ps = c.args.rows.now in
+    let e = leads_there (not_below ps c.args.spn) (length ps) c.loop-n.hi c.loop-n.n (omega arith) c.loop-n.invariant.3 in
+    halved-nowhere ps c.requires c.args.spn
+    (λ has. c.if-wide-spn.false (c.wide-2.ensures ∙ (pair-at ps c.loop-n.hi).0 ∙ ap (λ (i : ℕ). (row_in (rows_in ps) i).spn) e ∙ has))

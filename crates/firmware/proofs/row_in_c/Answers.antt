@@ -1,0 +1,6 @@
+-- `firmware::row_in_c` meets its contract: its answer as C gets it, beside the same numbers.
+-- Assumes nothing.
+use Rattle.firmware.proofs.row_in_c.Goals as goal
+
+pub returns : goal.returns
+returns c = simp c.in_c.ensures

@@ -1,0 +1,6 @@
+-- `firmware::yendrolf_table_read` meets its contract: the promise of the room below, with the answer as C gets it.
+-- Assumes nothing.
+use Rattle.firmware.proofs.yendrolf_table_read.Goals as goal
+
+pub returns : goal.returns
+returns c = simp c.in_c.ensures c.read-answer.ensures

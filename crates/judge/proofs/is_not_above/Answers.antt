@@ -1,0 +1,14 @@
+-- `is_not_above`: the first position has none before it, and every other is compared with the one before. Assumes nothing.
+use mathlib.Core.Path.{sym, ap₂, ◌∙◌}
+use lib.Dec.{leb}
+use Rattle.judge.specs.Judge.{number_at}
+use Rattle.judge.proofs.Search.{not_above-at, first_above}
+use Rattle.judge.proofs.is_not_above.Goals as goal
+
+pub returns-then-i-eq0 : goal.returns-then-i-eq0
+returns-then-i-eq0 c = let a = c.args in rw c.if-i-eq0.true (sym (first_above (number_at a.starts.now)))
+
+pub returns : goal.returns
+returns c =
+    let a = c.args in
+    ap₂ leb c.number_at.ensures c.number_at-2.ensures ∙ not_above-at (number_at a.starts.now) a.i c.if-i-eq0.false

@@ -1,0 +1,6 @@
+-- The loop ends: it goes once over the list. Assumes nothing.
+use Prim.Native.Nat.{◌-◌}
+use Rattle.lines.proofs.longs.Goals as goal
+
+pub long-requires : goal.long-requires
+long-requires c = tt

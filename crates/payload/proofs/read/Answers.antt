@@ -1,0 +1,45 @@
+-- `read`: what is taken out of one number is what reading makes; where nothing is taken the room is as it was. Assumes nothing.
+use mathlib.Core.Path.{◌≡◌, sym, ap, ◌∙◌}
+use mathlib.Core.Bool.{and-eq-true_iff}
+use mathlib.Core.List.{List}
+use mathlib.Core.Logic.{⊎_elim}
+use Prim.Native.Nat.{ℕ, ◌≤◌}
+use native.Mathlib.Omega.{arith}
+use borrow.Author.Rules.{rules}
+use borrow.Author.Tests.{eqb-true}
+use lib.ListN.{length}
+use Rattle.bits.specs.Bits.{run_at}
+use Rattle.single.proofs.Cutting.{not_taken}
+use Rattle.payload.specs.Calls.{reading}
+use Rattle.payload.proofs.OneWord.{short_read}
+use Rattle.payload.proofs.read.Goals as goal
+
+pub eight_of-eight-requires : goal.eight_of-eight-requires
+eight_of-eight-requires c =
+    let right : let a = c.args in (length a.payload.now ≡ 8) × (length a.starts.now ≤ 64) = let (f, g) = (and-eq-true_iff _ _).0 c.if-payload-may_be_short.true in (eqb-true _ _ f, (c.may_be_short.ensures g).0) in
+    (right).0
+
+pub overflow_cast-count : goal.overflow_cast-count
+overflow_cast-count c =
+    let right : let a = c.args in (length a.payload.now ≡ 8) × (length a.starts.now ≤ 64) = let (f, g) = (and-eq-true_iff _ _).0 c.if-payload-may_be_short.true in (eqb-true _ _ f, (c.may_be_short.ensures g).0) in
+    omega (arith, (right).1)
+
+pub returns-then-numbers_in : goal.returns-then-numbers_in
+returns-then-numbers_in c =
+    let right : let a = c.args in (length a.payload.now ≡ 8) × (length a.starts.now ≤ 64) = let (f, g) = (and-eq-true_iff _ _).0 c.if-payload-may_be_short.true in (eqb-true _ _ f, (c.may_be_short.ensures g).0) in
+    let a = c.args in
+    let r = right in
+    rw c.numbers_in.ensures.1
+    (short_read a.starts.now a.widths.now a.payload.now a.room.now _ r.1 r.0
+    (c.word_of-word.ensures.0 ∙ ap (λ (xs : List ℕ). run_at xs 0 64) c.eight_of-eight.ensures) (sym c.numbers_in.ensures.0 ∙ c.if-numbers_in.true))
+
+pub shape_of-room : goal.shape_of-room
+shape_of-room c =
+    let same : c.if-payload-may_be_short.room ≡ c.args.room.now = let a = c.args in ⊎_elim (λ w. w.9 ∙ w.5.ensures.1 ∙ sym (not_taken w.3.result a.starts.now a.widths.now a.room.now (sym w.5.ensures.0 ∙ w.8.left))) (λ w. w.1) c.if-payload-may_be_short.branch in
+    rw (← same) (search rules)
+
+pub returns : goal.returns
+returns c =
+    let same : c.if-payload-may_be_short.room ≡ c.args.room.now = let a = c.args in ⊎_elim (λ w. w.9 ∙ w.5.ensures.1 ∙ sym (not_taken w.3.result a.starts.now a.widths.now a.room.now (sym w.5.ensures.0 ∙ w.8.left))) (λ w. w.1) c.if-payload-may_be_short.branch in
+    let a = c.args in
+    c.read_any.ensures ∙ ap (reading a.starts.now a.widths.now a.payload.now) (same)

@@ -1,0 +1,20 @@
+-- `ports::clear_words` meets its contract: the words passed are 0, and the rest are as they were.
+-- Assumes nothing.
+use mathlib.Core.Path.{◌∙◌}
+use Prim.Native.Nat.{◌-◌}
+use native.Mathlib.Omega.{arith}
+use Rattle.words.proofs.Lists.{spread_none, spread_more, spread_all}
+use Rattle.ports.proofs.Calls.{all_fresh}
+use Rattle.ports.proofs.clear_words.Goals as goal
+
+pub loop-i-init : goal.loop-i-init
+loop-i-init c = spread_none 0 _
+
+pub loop-i-preserved : goal.loop-i-preserved
+loop-i-preserved c = spread_more 0 _ _ _ c.loop-i.invariant (omega arith)
+
+pub shape_of-w : goal.shape_of-w
+shape_of-w c = c.loop-i.invariant.long
+
+pub returns : goal.returns
+returns c = spread_all 0 _ _ _ c.loop-i.invariant (omega arith) ∙ all_fresh _ c.requires

@@ -1,0 +1,28 @@
+-- The loop's invariant: what some bytes made before it, some bytes make now. It ends, since it counts its turns. Assumes nothing.
+use native.Mathlib.Omega.{arith}
+use Rattle.feeding.specs.Feed.{started}
+use Rattle.reading.specs.Bytes.{SomeBytes}
+use Rattle.reading.proofs.Chunks.{more_bytes}
+use Rattle.reading.proofs.log.Goals as goal
+
+-- the first chunk
+once : (c : tie.After-feed-on invariant-loop decreases-loop) → SomeBytes c.before.before.before.before.args.t.now started c.feed-on.new.0 c.feed-on.result.tally
+once c = rw c.before.start.ensures at c.feed-on.ensures
+
+pub loop-turns-init : goal.loop-turns-init
+loop-turns-init c = h
+
+pub overflow_sub-turns : goal.overflow_sub-turns
+overflow_sub-turns c = omega arith
+
+pub loop-turns-smaller : goal.loop-turns-smaller
+loop-turns-smaller c = omega arith
+
+pub loop-turns-preserved : goal.loop-turns-preserved
+loop-turns-preserved c = λ u h. more_bytes _ _ _ _ _ _ (c.loop-turns.invariant u h) c.feed_on-taken-in-loop-turns.ensures
+
+pub returns-else-taken : goal.returns-else-taken
+returns-else-taken c = c.loop-turns.invariant _ (once c)
+
+pub returns-after-loop-turns : goal.returns-after-loop-turns
+returns-after-loop-turns c = c.loop-turns.invariant _ (once c)

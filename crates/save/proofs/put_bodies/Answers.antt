@@ -1,0 +1,54 @@
+use Prim.Native.Nat.{◌+◌, ◌-◌}
+use mathlib.Core.Path.{refl, sym, ap, ◌∙◌}
+use mathlib.Core.Option.{Option}
+use native.Mathlib.Omega.{arith}
+use Rattle.text.specs.Text.{page, put_all}
+use Rattle.message.specs.declared.Key.{Key}
+use Rattle.lookup.specs.View.{map_in}
+use Rattle.lookup.specs.Next.{key_found}
+use Rattle.save.specs.Pieces.{marks, bodies_pieces}
+use Rattle.lookup.specs.Next.{next_key}
+use Rattle.save.proofs.Walked.{rest, bodies_turn, rest_none, rest_done, bodies_end, mark_now, mark-next}
+use borrow.Author.Rules.{rules}
+use Rattle.save.proofs.put_bodies.Goals as goal
+
+pub loop-i-init : goal.loop-i-init
+loop-i-init c =
+    let a = c.args in (
+      omega arith,
+      refl,
+      ap (λ (k : Option Key). put_all (page a.at a.out.now) (bodies_pieces (map_in a.t.now) (rest a.t.now 16 k))) c.first_key-next.ensures,
+      c.requires ∙ sym (ap (marks 16 a.t.now) c.first_key-next.ensures),
+    )
+
+pub put_body-place-requires : goal.put_body-place-requires
+put_body-place-requires c =
+    let a = c.args in
+    let f = c.next-1.given in
+    mark_now a.t.now (16 - (c.loop-i.i + 1)) (16 - c.loop-i.i) f.0.0 (key_found c.loop-i.next) (next_key a.t.now f.0.0) (omega arith) (ap key_found f.1) refl a.marks.now c.loop-i.i c.loop-i.invariant.3
+
+pub returns-in-NoMore : goal.returns-in-NoMore
+returns-in-NoMore c =
+    let t = c.args.t.now in
+    bodies_end t (16 - c.loop-i.i) (key_found c.loop-i.next) (page c.loop-i.place c.loop-i.out) (rest_none t (16 - c.loop-i.i) (key_found c.loop-i.next) (ap key_found c.in-NoMore.is)) ∙ c.loop-i.invariant.2
+
+pub loop-i-preserved : goal.loop-i-preserved
+loop-i-preserved c =
+    let a = c.args in
+    let t = a.t.now in
+    let f = c.next-1.given in
+    let m = 16 - (c.loop-i.i + 1) in
+    let n = 16 - c.loop-i.i in
+    let k = f.0.0 in (
+      omega arith,
+      search rules,
+      bodies_turn t m n k (key_found c.loop-i.next) _ (omega arith) (ap key_found f.1) c.next_key-next.ensures _ (page c.loop-i.place c.loop-i.out) _
+          (mark_now t m n k (key_found c.loop-i.next) _ (omega arith) (ap key_found f.1) c.next_key-next.ensures a.marks.now c.loop-i.i c.loop-i.invariant.3) c.put_body-place.ensures
+          ∙ c.loop-i.invariant.2,
+      mark-next t m n k (key_found c.loop-i.next) _ (omega arith) (ap key_found f.1) c.next_key-next.ensures a.marks.now c.loop-i.i c.loop-i.invariant.3,
+    )
+
+pub returns : goal.returns
+returns c =
+    let t = c.args.t.now in
+    bodies_end t (16 - c.loop-i.i) (key_found c.loop-i.next) (page c.loop-i.place c.loop-i.out) (rest_done t (16 - c.loop-i.i) (key_found c.loop-i.next) (omega arith)) ∙ c.loop-i.invariant.2
