@@ -63,7 +63,7 @@ pub heard_request : (pair size pgn id len : ℕ) (d : List ℕ) → IsRequest pa
 heard_request pair size pgn id len d r =
     let o = r.of in
     let s = r.bytes-said in
-    let p = r.of-pgn in
+    let p = r.of_pgn in
     all_pass (λ n. []) (served_tests request_pgn id len (fields_of id) ++ request_tests d) (Asks (pair_in (fields_of id)) (size_said d) (pgn_said d) ∷ []) r.passes
     ∙ (λ i. Asks (o i) (s i) (p i) ∷ [])
 

@@ -166,13 +166,13 @@ module _ (w : List ℕ) (long : length w ≡ 408) (from to : ℕ) where
 -- any answer to a frame but 0 and 10 leaves every word
 pub learn_leaves : (t : List ℕ) → length t ≡ table_words → (id len : ℕ) (d : List ℕ) → ((learnt t id len d).answer.number ≡ 0 → ⊥) → ((learnt t id len d).answer.number ≡ 10 → ⊥)
     → (learnt t id len d).memory ≡ t
-learn_leaves = refusals.refusal-leaves
+learn_leaves = refusals.refusal_leaves
 
 -- answer 10 changes the state of its own key's row at most, and no other word
 pub learn_marks : (t : List ℕ) → length t ≡ table_words → (id len : ℕ) (d : List ℕ) (m : Message) → (heard id len d).message ≡ some m → (learnt t id len d).answer.number ≡ 10
     → ((learnt t id len d).memory ≡ t) ⊎ ((learnt t id len d).memory ≡ set t (slot_of t (key_number m.key) * row_words) 2)
 unfolding learnt
-learn_marks t long id len d m e q = rw e (refusals.ten-marks t long m (rw e at q))
+learn_marks t long id len d m e q = rw e (refusals.ten_marks t long m (rw e at q))
 
 -- and 10 is given to well_formed messages alone
 pub ten_heard : (t : List ℕ) (id len : ℕ) (d : List ℕ) → (learnt t id len d).answer.number ≡ 10 → (heard id len d).message ≡ none → ⊥
@@ -182,11 +182,11 @@ ten_heard t id len d q e =
     omega (arith, z, at-most_eight id len d)
 
 pub forget_leaves : (t : List ℕ) (key : ℕ) → ((forgotten t key).answer.number ≡ 0 → ⊥) → (forgotten t key).memory ≡ t
-forget_leaves = refusals.eleven-leaves
+forget_leaves = refusals.eleven_leaves
 
 -- a refused edition leaves every word, and one that is set changes one word of its own key's row, of which one bit (keyrow, Edition.antt)
 pub set_leaves : (t : List ℕ) (key e : ℕ) → ((edited t key e).answer.number ≡ 0 → ⊥) → (edited t key e).memory ≡ t
-set_leaves = edition.refusal-leaves
+set_leaves = edition.refusal_leaves
 
 pub set-marks : (t : List ℕ) → length t ≡ table_words → (key e : ℕ)
     → ((edited t key e).memory ≡ t) ⊎ ((edited t key e).memory ≡ set t (slot_of t key * row_words + 2) (with_edition (get_or t (slot_of t key * row_words + 2) 0) e))
@@ -336,23 +336,23 @@ module _ (calls : List Call) (bytes : AllCarried calls) where
   -- "if at no moment more than 16 keys have well_formed messages since their last forget": from all of them
   module _ (few : Few (happened calls)) where
     demand_map : (k : Key) → InBytes k → map_in (run calls) k ≡ map_of (since (happened calls) k)
-    demand_map k b = let (w, i) = run_is calls bytes in rw w (theorem.demand-map (happened calls) i few k b)
+    demand_map k b = let (w, i) = run_is calls bytes in rw w (theorem.demand_map (happened calls) i few k b)
 
     demand_edition : (k : Key) → InBytes k → edition_in (run calls) k ≡ edition_of (happened calls) k
-    demand_edition k b = let (w, i) = run_is calls bytes in rw w (theorem.demand-edition (happened calls) i few k b)
+    demand_edition k b = let (w, i) = run_is calls bytes in rw w (theorem.demand_edition (happened calls) i few k b)
 
     pub demand_3 : (k : Key) → InBytes k → Answers (known_in (run calls) k) (known_by (happened calls) k)
     demand_3 k b = same-answers _ _ (alike (demand_edition k b) (demand_map k b))
 
     -- learn's own answer, forget's, and that to an edition
     pub demand_3_learn : (id len : ℕ) (d : List ℕ) → Carried (Frame id len d) → (learnt (run calls) id len d).answer ≡ plain (frame_answer (happened calls) id len d)
-    demand_3_learn id len d c = let (w, i) = run_is calls bytes in rw w (theorem.demand-frame (happened calls) i few id len d c)
+    demand_3_learn id len d c = let (w, i) = run_is calls bytes in rw w (theorem.demand_frame (happened calls) i few id len d c)
 
     pub demand_3_forget : (k : Key) → InBytes k → (forgotten (run calls) (key_number k)).answer ≡ plain (answer (happened calls) (Forget k))
-    demand_3_forget k b = let (w, i) = run_is calls bytes in rw w (theorem.demand-forget (happened calls) i few k b)
+    demand_3_forget k b = let (w, i) = run_is calls bytes in rw w (theorem.demand_forget (happened calls) i few k b)
 
     pub demand_3_edition : (k : Key) (e : ℕ) → InBytes k → (edited (run calls) (key_number k) e).answer ≡ plain (answer (happened calls) (Edition k e))
-    demand_3_edition k e b = let (w, i) = run_is calls bytes in rw w (theorem.demand-set (happened calls) i few k e b)
+    demand_3_edition k e b = let (w, i) = run_is calls bytes in rw w (theorem.demand_set (happened calls) i few k e b)
 
 -- two runs that leave a key the same set and the same edition, whatever came before, between and to other keys, give the same answers about it
 pub same_set : (calls others : List Call) → AllCarried calls → AllCarried others → (k : Key) → InBytes k

@@ -11,19 +11,19 @@ use Rattle.arrivals.proofs.Refusals as refusals
 
 module _ (heads : List ℕ) (id len : ℕ) (d : List ℕ) where
   pub request_list : one_of (requested heads id len d).answer.number (0 ∷ 30 ∷ 1 ∷ 2 ∷ 3 ∷ 24 ∷ 31 ∷ []) ≡ true
-  request_list = refusals.request-list heads id len d
+  request_list = refusals.request_list heads id len d
 
   pub request_leaves : ((requested heads id len d).answer.number ≡ 0 → ⊥) → (requested heads id len d).memory ≡ heads
-  request_leaves = refusals.request-leaves heads id len d
+  request_leaves = refusals.request_leaves heads id len d
 
 module _ (u : Memory) (out d : List ℕ) (id len : ℕ) where
   pub packet_list : one_of (arrived u out id len d).answer.number (0 ∷ 28 ∷ 29 ∷ 1 ∷ 2 ∷ 3 ∷ []) ≡ true
-  packet_list = refusals.packet-list u out d id len
+  packet_list = refusals.packet_list u out d id len
 
   pub packet_leaves : ((arrived u out id len d).answer.number ≡ 0 → ⊥) → ((arrived u out id len d).answer.number ≡ 29 → ⊥)
       → ((arrived u out id len d).lent ≡ u) × ((arrived u out id len d).out ≡ out)
-  packet_leaves = refusals.packet-leaves u out d id len
+  packet_leaves = refusals.packet_leaves u out d id len
 
   -- only the answer that carries a size writes into the lent buffer
   pub buffer_stays : (arrived u out id len d).answer.detail ≡ 0 → (arrived u out id len d).out ≡ out
-  buffer_stays = refusals.buffer-stays u out d id len
+  buffer_stays = refusals.buffer_stays u out d id len

@@ -152,18 +152,18 @@ old_unedited (Reads ∷ cs) u = absurd u.0
 -- an image of form 1 is undamaged exactly where it was one under Req 01: where it is that of a table that frames and forgets make
 pub undamaged_old : (l : List ℕ) → Bytes l → form_of l ≡ 1 → (good l ≡ true) ↔ ((cs : List Call) × AllCarried cs × AllOld cs × (image_in 1 (run cs) ≡ l))
 undamaged_old l b f = (
-  λ g. let (h, u, o, e) = (again.undamaged-old l b f).0 g in
+  λ g. let (h, u, o, e) = (again.undamaged_old l b f).0 g in
       (frames_of h, frames_carried h u, frames_old h o, ap (image_in 1) (words (frames_of h) (frames_carried h u) ∙ ap words_by (frames_happened h u)) ∙ e),
-  λ s. let (cs, ok, o, e) = s in (again.undamaged-old l b f).1 (happened cs, run-taught cs ok, old_unedited cs o, ap (image_in 1) (sym (words cs ok)) ∙ e),
+  λ s. let (cs, ok, o, e) = s in (again.undamaged_old l b f).1 (happened cs, run-taught cs ok, old_unedited cs o, ap (image_in 1) (sym (words cs ok)) ∙ e),
 )
 
 -- what it stands for has 2010, whatever its bytes are
 pub old_2010 : (l : List ℕ) → Bytes l → form_of l ≡ 1 → (k : Key) → InBytes k → edition_in (words_by (events_of l)) k ≡ 2010
-old_2010 l b f k c = again.unedited-2010 (events_of l) (again.events-taught l b) (again.old-unedited l f) k c
+old_2010 l b f k c = again.unedited_2010 (events_of l) (again.events-taught l b) (again.old_unedited l f) k c
 
 -- and any byte 0 but 1 and 2 is damage
 pub two_forms : (l : List ℕ) → good l ≡ true → get_or l 0 0 ≡ form_of l
-two_forms = again.form-good
+two_forms = again.form_good
 
 -- a written image is undamaged
 pub written-good : (cs : List Call) → AllCarried cs → good (image_of (run cs)) ≡ true
@@ -216,7 +216,7 @@ module _ (cs : List Call) (ok : AllCarried cs) (k : Key) (b : InBytes k) where
       let t = run-taught cs ok in
       let m = is_saved_lem ∙ u in
       ap (λ (x : List ℕ). known_in (words_by (events_of (image_of x))) k) w
-      ∙ (λ i. record { edition = again.same-editions 2 refl h t (every h) k m i; map = again.same-maps 2 refl h t (every h) k m i }) ∙ ap (λ (x : List ℕ). known_in x k) (sym w)
+      ∙ (λ i. record { edition = again.same_editions 2 refl h t (every h) k m i; map = again.same_maps 2 refl h t (every h) k m i }) ∙ ap (λ (x : List ℕ). known_in x k) (sym w)
 
   back_none : is_saved (run cs) k ≡ false → map_in back k ≡ Nothing
   back_none u =
@@ -235,7 +235,7 @@ module _ (cs ds : List Call) (ok : AllCarried cs) (okd : AllCarried ds) (none_he
       let c = image_bytes 2 (omega arith) (run cs) in
       let g = written-good cs ok in
       ap (λ (t : List ℕ). known_in (loaded t l).memory k) w
-      ∙ (λ j. record { edition = empty.edition-into-empty (happened ds) i e l c g k b j; map = empty.into-empty (happened ds) i e l c g k b j })
+      ∙ (λ j. record { edition = empty.edition_into_empty (happened ds) i e l c g k b j; map = empty.into_empty (happened ds) i e l c g k b j })
 
   -- every saved key, that is every key whose map is usable by its edition, has its map and its edition again
   pub swapped : (k : Key) → InBytes k → is_saved (run cs) k ≡ true → known_in new k ≡ known_in (run cs) k
@@ -262,10 +262,10 @@ module _ (cs ds : List Call) (ok : AllCarried cs) (okd : AllCarried ds) (none_he
       let c = image_bytes 2 (omega arith) (run cs) in
       let g = written-good cs ok in
       let e : is_empty (held_keys (words_by (happened ds))) ≡ true = sym (ap (λ (t : List ℕ). is_empty (held_keys t)) w) ∙ none_held in
-      let f : is_empty (keys (kept (happened ds))) ≡ true = sym (empty.empty-when (happened ds) i) ∙ e in (
-        ap (λ (t : List ℕ). (loaded t l).answer) w ∙ ap (λ (o : Outcome). o.answer) (empty.load-done (happened ds) i e l c g),
+      let f : is_empty (keys (kept (happened ds))) ≡ true = sym (empty.empty_when (happened ds) i) ∙ e in (
+        ap (λ (t : List ℕ). (loaded t l).answer) w ∙ ap (λ (o : Outcome). o.answer) (empty.load_done (happened ds) i e l c g),
         rw (g, f),
-        rw (g, f) (empty.kept-all (happened ds) i e l c g),
+        rw (g, f) (empty.kept_all (happened ds) i e l c g),
       )
 
 -- ---- "asking for a key hands back that key's body": of a written image the body of the key's map, its edition and 0; of a key that is not usable nothing, and 22
@@ -289,14 +289,14 @@ module _ (cs : List Call) (ok : AllCarried cs) (k : Key) (b : InBytes k) where
 
   pub asked_body : row_body image (row_with image k) ≡ cond (is_saved (run cs) k) (body_of (map_in (run cs) k)) []
   asked_body =
-      part.body-of image bytes (written-good cs ok) k
+      part.body_of_lem image bytes (written-good cs ok) k
       ∙ test (is_saved (run cs) k)
       (λ y. rw (found, y) (ap (λ (x : Known). body_of x.map) (back_known cs ok k b y)))
       (λ n. rw (found, n))
 
   pub asked-edition : row_edition image (row_with image k) ≡ cond (is_saved (run cs) k) (edition_in (run cs) k) 0
   asked-edition =
-      part.edition-of image bytes (written-good cs ok) k
+      part.edition_of_lem image bytes (written-good cs ok) k
       ∙ test (is_saved (run cs) k)
       (λ y. rw (found, y) (ap (λ (x : Known). x.edition) (back_known cs ok k b y)))
       (λ n. rw (found, n))
@@ -326,7 +326,7 @@ module _ (t l : List ℕ) where
   load_list = from-answers (λ (o : Outcome). o.answer.number) (λ a. outcome a t) (λ a. refl) (load_tests t l) (outcome (plain 0) (words_from t (events_of l)))
 
   pub load_leaves : ((loaded t l).answer.number ≡ 0 → ⊥) → (loaded t l).memory ≡ t
-  load_leaves = empty.load-refused t l
+  load_leaves = empty.load_refused t l
 
 module _ (l : List ℕ) (i : ℕ) where
   pub asked-answer : row_asked l i ≡ cond (good l) (cond (leb (row_count l) i) (plain 22) (plain 0)) (plain 21)

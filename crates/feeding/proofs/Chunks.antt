@@ -33,13 +33,13 @@ module _ {S : Type 0} (step : S → List ℕ → S) (p : S) (s : Tally) (chunk :
   -- its bytes make no whole record: they are what is left
   pub still_short : b.tally.left < 13 → (over step p log ≡ p) × (b.tally ≡ tally_of s.counts (left_of log))
   still_short h =
-      let (o, r, n) = chunks.still-short step p s.left s.carry chunk long (subst (λ (q : Begun). q.tally.left < 13) e h) in
+      let (o, r, n) = chunks.still_short step p s.left s.carry chunk long (subst (λ (q : Begun). q.tally.left < 13) e h) in
       (o, rw (e, r, n))
 
   -- they are a whole record, and the rest of the chunk comes after it
   pub made_whole : 13 ≤ b.tally.left → (over step p log ≡ over step (step p b.tally.carry) (drop b.taken chunk)) × (left_of log ≡ left_of (drop b.taken chunk))
   made_whole h =
-      let (o, r, n) = chunks.made-whole step p s.left s.carry chunk long (subst (λ (q : Begun). 13 ≤ q.tally.left) e h) in
+      let (o, r, n) = chunks.made_whole step p s.left s.carry chunk long (subst (λ (q : Begun). 13 ≤ q.tally.left) e h) in
       rw e (o, r)
 
 -- ---- the same of feeding

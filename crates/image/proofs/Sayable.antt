@@ -34,8 +34,8 @@ says_sayable : (s : List Message) (k : Key) → ((m : Message) → Memᴰ m s �
 says_sayable s k u Nothing g = tt
 says_sayable s k u Conflict g = tt
 says_sayable s k u (Held h places) g =
-    let t = (u g.first g.first-in).0 in
-    let e = g.head-is g.first g.first-in in
+    let t = (u g.first g.first_in).0 in
+    let e = g.head-is g.first g.first_in in
     record {
       count = rw (sym e) (omega (arith, t.position.0, t.position.1), t.n);
       each = λ p x q. let (m, i, a, b) = g.only p x q in

@@ -116,25 +116,25 @@ module _ (h : List Event) (ok : AllInWords h) where
   module _ (few : Few h) where
     -- what is held of a key is the map of all the messages that name it since its last forget
     pub demand_map : (k : Key) → InBytes k → map_in (words_by h) k ≡ map_of (since h k)
-    demand_map k b = sym (looks (words_by h) k b) ∙ demand.demand-row (calls_by h ok) few k
+    demand_map k b = sym (looks (words_by h) k b) ∙ demand.demand_row (calls_by h ok) few k
 
     -- and each call's answer is the one defined from them: to a frame its refusal 1 to 8; to a message that keeps within 16 keys 10 where the messages since the
     -- last forget, with it, are in conflict, else 0
     pub demand_frame : (id len : ℕ) (d : List ℕ) → ((i : ℕ) → get_or d i 0 < 256) → (learnt (words_by h) id len d).answer ≡ plain (frame_answer h id len d)
     demand_frame id len d bytes =
-        frame-answer id len d bytes ∙ ap (λ (g : List Event). plain (frame_answer g id len d)) (demand.all-kept h few)
+        frame-answer id len d bytes ∙ ap (λ (g : List Event). plain (frame_answer g id len d)) (demand.all_kept h few)
 
     -- its edition is the one last set since then
     pub demand_edition : (k : Key) → InBytes k → edition_in (words_by h) k ≡ edition_of h k
-    demand_edition k b = edition-is h ok k b ∙ ap (λ (g : List Event). edition_of g k) (demand.all-kept h few)
+    demand_edition k b = edition-is h ok k b ∙ ap (λ (g : List Event). edition_of g k) (demand.all_kept h few)
 
     -- to a forget 11 where there is no such message, else 0
     pub demand_forget : (k : Key) → InBytes k → (forgotten (words_by h) (key_number k)).answer ≡ plain (answer h (Forget k))
-    demand_forget k b = forget_answer k b ∙ ap (λ (g : List Event). plain (answer g (Forget k))) (demand.all-kept h few)
+    demand_forget k b = forget_answer k b ∙ ap (λ (g : List Event). plain (answer g (Forget k))) (demand.all_kept h few)
 
     -- to an edition 11 where there is none, 27 where it is none of the two, else 0
     pub demand_set : (k : Key) (e : ℕ) → InBytes k → (edited (words_by h) (key_number k) e).answer ≡ plain (answer h (Edition k e))
-    demand_set k e b = edition-answer k e b ∙ ap (λ (g : List Event). plain (answer g (Edition k e))) (demand.all-kept h few)
+    demand_set k e b = edition-answer k e b ∙ ap (λ (g : List Event). plain (answer g (Edition k e))) (demand.all_kept h few)
 
 -- ---- freed room is used again: after a forget of a held key no frame is answered 9
 

@@ -37,16 +37,16 @@ same_at (some x) o' f g = sym (f x refl)
 pub unique : (s t : List Message) → SameMembers s t → (M N : Map) → IsMap s M → IsMap t N → M ≡ N
 unique s t same Nothing Nothing u v = refl
 unique s t same Nothing Conflict u v = absurd (u v.one ((same v.one).1 v.one_in))
-unique s t same Nothing (Held k g) u v = absurd (u v.first ((same v.first).1 v.first-in))
+unique s t same Nothing (Held k g) u v = absurd (u v.first ((same v.first).1 v.first_in))
 unique s t same Conflict Nothing u v = absurd (v u.one ((same u.one).0 u.one_in))
 unique s t same Conflict Conflict u v = refl
 unique s t same Conflict (Held k g) u v =
-    never u.they (says_agree t k g v u.one u.other ((same u.one).0 u.one_in) ((same u.other).0 u.other-in))
-unique s t same (Held h f) Nothing u v = absurd (v u.first ((same u.first).0 u.first-in))
+    never u.they (says_agree t k g v u.one u.other ((same u.one).0 u.one_in) ((same u.other).0 u.other_in))
+unique s t same (Held h f) Nothing u v = absurd (v u.first ((same u.first).0 u.first_in))
 unique s t same (Held h f) Conflict u v =
-    never v.they (says_agree s h f u v.one v.other ((same v.one).1 v.one_in) ((same v.other).1 v.other-in))
+    never v.they (says_agree s h f u v.one v.other ((same v.one).1 v.one_in) ((same v.other).1 v.other_in))
 unique s t same (Held h f) (Held k g) u v =
-    let heads : h ≡ k = sym (u.head-is u.first u.first-in) ∙ v.head-is u.first ((same u.first).0 u.first-in) in
+    let heads : h ≡ k = sym (u.head-is u.first u.first_in) ∙ v.head-is u.first ((same u.first).0 u.first_in) in
     let places : f ≡ g = fun_ext (λ p. same_at (f p) (g p) (says_more s t h k f g (λ m. (same m).0) u v p) (says_more t s k h g f (λ m. (same m).1) v u p)) in
     λ i. Held (heads i) (places i)
 
@@ -136,7 +136,7 @@ agrees_no (some z) x e = (z, refl, e)
 one_more : (s : List Message) (m : Message) (M : Map) → IsMap s M → IsMap (m ∷ s) (learned M m)
 unfolding agrees_with
 one_more s m Nothing u = grow s m m.head (λ p. none) refl (λ x i. absurd (u x i)) (λ p x e. absurd (none-ne-some x e))
-one_more s m Conflict u = record { one = u.one; other = u.other; one_in = Memᴰ.tail u.one_in; other_in = Memᴰ.tail u.other-in; they = u.they }
+one_more s m Conflict u = record { one = u.one; other = u.other; one_in = Memᴰ.tail u.one_in; other_in = Memᴰ.tail u.other_in; they = u.they }
 one_more s m (Held h at) u = test (agrees_with h at m) (λ t. rw t (fit t)) (λ f. rw f (unfit f))
   where
     fit : agrees_with h at m ≡ true → Says (m ∷ s) h (places_with at m)
@@ -152,9 +152,9 @@ one_more s m (Held h at) u = test (agrees_with h at m) (λ t. rw t (fit t)) (λ 
         (λ a. record {
           one = u.first;
           other = m;
-          one_in = Memᴰ.tail u.first-in;
+          one_in = Memᴰ.tail u.first_in;
           other_in = Memᴰ.head refl;
-          they = clash_head u.first m (rw (u.head-is u.first u.first-in) a);
+          they = clash_head u.first m (rw (u.head-is u.first u.first_in) a);
         })
         (λ b. let (y, e, n) = agrees_no (at m.position) m.place b in
         let (x, i, q, r) = u.only m.position y e in

@@ -14,11 +14,11 @@ some = omega arith
 
 -- the bytes that are carried make no whole record
 pub left_few : (left : ℕ) → left_in left ≤ 12
-left_few left = omega (arith, sized.held-few 13 some left)
+left_few left = omega (arith, sized.held_few 13 some left)
 
 -- a list that is shorter than a record comes back as it was left
 pub carried_back : (l : List ℕ) → length l < 13 → carried (length l) (padded l) ≡ l
-carried_back l h = sized.carried-back 13 some l h
+carried_back l h = sized.carried_back 13 some l h
 
 -- with the 0 behind them there are 13 bytes
 pub padded-long : (l : List ℕ) → length (padded l) ≡ 13
@@ -39,7 +39,7 @@ module _ {S : Type 0} (step : S → List ℕ → S) where
 
   -- a slice of one record
   pub one_record : (s : S) (r : List ℕ) → length r ≡ 13 → over step s r ≡ step s r
-  one_record s r e = sized.one-record 13 some step s r e
+  one_record s r e = sized.one_record 13 some step s r e
 
   -- the carried bytes, and a chunk behind them
   module _ (s : S) (left : ℕ) (carry chunk : List ℕ) (long : length carry ≡ 13) where
@@ -50,8 +50,8 @@ module _ {S : Type 0} (step : S → List ℕ → S) where
     k = taken_by 13 left (length chunk)
 
     pub still_short : left_in left + k < 13 → (over step s (x ++ chunk) ≡ s) × (left_of (x ++ chunk) ≡ x ++ chunk) × (length (x ++ chunk) ≡ left_in left + k)
-    still_short h = sized.still-short 13 some step s left carry chunk long h
+    still_short h = sized.still_short 13 some step s left carry chunk long h
 
     pub made_whole : 13 ≤ left_in left + k
         → (over step s (x ++ chunk) ≡ over step (step s (padded (x ++ chunk))) (drop k chunk)) × (left_of (x ++ chunk) ≡ left_of (drop k chunk)) × (k ≤ length chunk)
-    made_whole h = sized.made-whole 13 some step s left carry chunk long h
+    made_whole h = sized.made_whole 13 some step s left carry chunk long h

@@ -41,7 +41,7 @@ module _ (b : Bridge) (w : List ℕ) (s : Tally) (chunk : List ℕ) (long : leng
     pub fed-short : g.left < 14 → fed b w (record { counts = s.counts; left = g.left; carry = r }) ≡ feeding b w s chunk
     unfolding feeding
     fed-short h =
-        let (o, l, n) = sized.still-short 14 some step (state b w s.counts) s.left s.carry chunk long (subst (λ (x : Begun). x.left < 14) e h) in
+        let (o, l, n) = sized.still_short 14 some step (state b w s.counts) s.left s.carry chunk long (subst (λ (x : Begun). x.left < 14) e h) in
         rw (p, e, o, l, n)
 
     -- a whole one, and the rest of the chunk comes after it
@@ -49,9 +49,9 @@ module _ (b : Bridge) (w : List ℕ) (s : Tally) (chunk : List ℕ) (long : leng
         → t ≡ tally_of v.counts (left_by 14 (take (length chunk - g.taken) (drop g.taken chunk))) → fed v.words v.filters t ≡ feeding b w s chunk
     unfolding feeding
     fed_whole h u v t y z x =
-        let (o, l, m) = sized.made-whole 14 some step (state b w s.counts) s.left s.carry chunk long (subst (λ (x : Begun). 14 ≤ x.left) e h) in
+        let (o, l, m) = sized.made_whole 14 some step (state b w s.counts) s.left s.carry chunk long (subst (λ (x : Begun). 14 ≤ x.left) e h) in
         let n : length r ≡ 14 = rw p (sized.padded-long 14 some (carried_by 14 s.left s.carry ++ chunk)) in
-        rw (x, z, sized.to_end chunk g.taken, y, sized.one-record 14 some step (state b w s.counts) r n, p, e, o, l)
+        rw (x, z, sized.to_end chunk g.taken, y, sized.one_record 14 some step (state b w s.counts) r n, p, e, o, l)
 
 -- ---- chunk after chunk
 
@@ -66,14 +66,14 @@ fed_twice b w s x y =
     let l = behind s x in
     let u = over_by step 14 (state b w s.counts) l in
     let (o, r) = sized.in_two 14 some step y (state b w s.counts) l in
-    ap (λ (z : List ℕ). cut_off (over_by step 14 u (z ++ y)) (left_by 14 (z ++ y))) (sized.carried-back 14 some (left_by 14 l) (sized.left_less 14 some l))
+    ap (λ (z : List ℕ). cut_off (over_by step 14 u (z ++ y)) (left_by 14 (z ++ y))) (sized.carried_back 14 some (left_by 14 l) (sized.left_less 14 some l))
     ∙ ap₂ cut_off (sym o) (sym r)
     ∙ ap (λ (z : List ℕ). cut_off (over_by step 14 (state b w s.counts) z) (left_by 14 z)) (append_assoc (carried_by 14 s.left s.carry) x y)
 
 -- nothing more changes nothing
 fed_nothing : (b : Bridge) (w : List ℕ) (k : Counts) (l : List ℕ) → length l < 14 → fed b w (tally_of k l) ≡ feeding b w (tally_of k l) []
 unfolding feeding
-fed_nothing b w k l h = rw (sized.carried-back 14 some l h, append-nil l, sized.over-short 14 some l h step (state b w k), sized.left-short 14 some l h)
+fed_nothing b w k l h = rw (sized.carried_back 14 some l h, append-nil l, sized.over-short 14 some l h step (state b w k), sized.left-short 14 some l h)
 
 is_cut : (b : Bridge) (w : List ℕ) (s : Tally) (x : List ℕ) → feeding b w s x ≡ cut_off (over_by step 14 (state b w s.counts) (behind s x)) (left_by 14 (behind s x))
 unfolding feeding

@@ -24,13 +24,13 @@ module _ (out text after : List ℕ) (a : Said) (e : after ≡ laid out 0 text) 
 module _ (size : ℕ) (p : Page) (text : List ℕ) (h : Holds size p text) where
   -- is no shorter than it
   pub within : p.at ≤ length p.bytes
-  within = omega (arith, h.next, sym (length-take p.at p.bytes) ∙ ap length h.text-is)
+  within = omega (arith, h.next, sym (length-take p.at p.bytes) ∙ ap length h.text_is)
 
   -- and its first bytes are handed out as that text, with its whole length where the page has fewer than 2^32 bytes
   pub handed-page : size < 4294967296 → (out : List ℕ)
       → handed out (take p.at p.bytes) ≡ cond (fits out 0 text) (outcome (done (length text)) (splice out 0 text)) (outcome (plain 13) out)
   unfolding handed
   handed-page few out =
-      rw h.text-is
+      rw h.text_is
       (ap (λ (n : ℕ). cond (fits out 0 text) (outcome (done n) (splice out 0 text)) (outcome (plain 13) out))
       (mod-eq_of_lt (omega (arith, within, h.long, h.next))))

@@ -41,5 +41,5 @@ holds_more size p text x h room =
       next = ap (λ (n : ℕ). n + length x) h.next ∙ sym (length-append text x);
       text_is = sym (ap (take (p.at + length x)) (append_assoc (take p.at p.bytes) x (drop (p.at + length x) p.bytes)))
           ∙ take_at (take p.at p.bytes ++ x) (drop (p.at + length x) p.bytes) (p.at + length x) (length-append (take p.at p.bytes) x ∙ ap (λ (n : ℕ). n + length x) t)
-          ∙ ap (λ (y : List ℕ). y ++ x) h.text-is;
+          ∙ ap (λ (y : List ℕ). y ++ x) h.text_is;
     })

@@ -27,7 +27,7 @@ pub record Sound (port : ℕ) (x : Frame) : Type 0 where
 module _ (port : ℕ) (x : Frame) (s : Sound port x) where
   pub from_back : from_in (word_for x) ≡ x.from
   from_back =
-      let h = (two x.from port s.two-ports).from-most in
+      let h = (two x.from port s.two_ports_lem).from-most in
       let q : (x.from * 2 ^ 32 + x.id) / 2 ^ 32 ≡ x.from = omega (arith, s.short) in
       omega (arith, q, h)
 

@@ -71,7 +71,7 @@ real_append (e ∷ a) b r s = (r.0, real_append a b r.1 s)
 real_heard : (w : List ℕ) (c : Call) → AllReal (heard w c)
 real_heard w (Arrives port id) =
     test (is_port port)
-    (λ y. let o = others port y in rw y (real_offer w id port (third_other port) o.third-two, (real_offer w id port (second_other port) o.second-two, (real_offer w id port (first_other port) o.first_two, tt))))
+    (λ y. let o = others port y in rw y (real_offer w id port (third_other port) o.third_two, (real_offer w id port (second_other port) o.second_two, (real_offer w id port (first_other port) o.first_two, tt))))
     (λ n. rw n tt)
 real_heard w (Leaves port) = test (is_port port) (λ y. rw y (y, tt)) (λ n. rw n tt)
 real_heard w (Order from to c) = tt
@@ -183,14 +183,14 @@ three-offers b h s w p id y =
     let b₁ = words_after b o₁ in
     let s₁ = one_more b h s o₁ (real_offer w id p (first_other p) t.first_two) in
     let b₂ = words_after b₁ o₂ in
-    let s₂ = one_more b₁ (o₁ ∷ h) s₁ o₂ (real_offer w id p (second_other p) t.second-two) in
+    let s₂ = one_more b₁ (o₁ ∷ h) s₁ o₂ (real_offer w id p (second_other p) t.second_two) in
     let e₂ : waits (o₁ ∷ h) (second_other p) ≡ waits h (second_other p) = other-waits o₁ h (second_other p) t.first-second in
     let e₃ : waits (o₂ ∷ o₁ ∷ h) (third_other p) ≡ waits h (third_other p) = other-waits o₂ (o₁ ∷ h) (third_other p) t.second-third ∙ other-waits o₁ h (third_other p) t.first-third in
     let at : ℕ → List Frame → Fate = λ k l. fate_of (verdict_of (decided w p k id)) l in
     let second : offered_to b₁ w p (second_other p) id ≡ replied (becomes w h id p (second_other p)) b₂ =
-    one_offer b₁ (o₁ ∷ h) s₁ w p (second_other p) id t.second-two ∙ ap (λ (l : List Frame). replied (at (second_other p) l) b₂) e₂ in
+    one_offer b₁ (o₁ ∷ h) s₁ w p (second_other p) id t.second_two ∙ ap (λ (l : List Frame). replied (at (second_other p) l) b₂) e₂ in
     let third : offered_to b₂ w p (third_other p) id ≡ replied (becomes w h id p (third_other p)) (words_after b₂ (offer_to w id p (third_other p))) =
-    one_offer b₂ (o₂ ∷ o₁ ∷ h) s₂ w p (third_other p) id t.third-two ∙ ap (λ (l : List Frame). replied (at (third_other p) l) (words_after b₂ (offer_to w id p (third_other p)))) e₃ in
+    one_offer b₂ (o₂ ∷ o₁ ∷ h) s₂ w p (third_other p) id t.third_two ∙ ap (λ (l : List Frame). replied (at (third_other p) l) (words_after b₂ (offer_to w id p (third_other p)))) e₃ in
     rw (y, one_offer b h s w p (first_other p) id t.first_two, second, third)
 
 module _ (w : List ℕ) (cs : List Call) where

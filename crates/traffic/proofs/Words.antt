@@ -275,7 +275,7 @@ module _ (b : Bridge) (h : List Event) (s : Says b h) (port : ℕ) (y : is_port 
       → counters_at (noted_at b.counters (pair_of a.from port) Sent) (pair_of f t) ≡ fold with_fate no_counters (fates (slot ∷ h) f t)
   unfolding fate_at
   some_counts a o f t x =
-      let z = (sound_leaver port queue a (s.sound port y) o).two-ports in
+      let z = (sound_leaver port queue a (s.sound port y) o).two_ports_lem in
       test (eqb port t)
       (λ e.
       let q : leaver priority_of (waits h t) ≡ some a = subst (λ (k : ℕ). leaver priority_of (waits h k) ≡ some a) (eqb-true port t e) o in
@@ -310,7 +310,7 @@ module _ (b : Bridge) (h : List Event) (s : Says b h) (port : ℕ) (y : is_port 
           ap (λ (k : ℕ). noted_at b.counters (pair_of k port) Sent) (ap from_in w ∙ from_back port a d) in
           subst (λ (k : Bridge). Says k (slot ∷ h)) (sym (slot_some b port y t ∙ ap (λ (k : List ℕ). bridge k gone.words) c))
           (record {
-            counters-long = long-noted b.counters s.counters-long (pair_of a.from port) (number_fits a.from port d.two-ports) Sent;
+            counters-long = long-noted b.counters s.counters-long (pair_of a.from port) (number_fits a.from port d.two_ports_lem) Sent;
             queues-long = leave_long b.queues s.queues-long (port - 1) (row_below port y);
             frames = slot_frames;
             sound = slot_sound;

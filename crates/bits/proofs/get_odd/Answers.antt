@@ -6,15 +6,15 @@ use Rattle.bits.proofs.get_odd.Goals as goal
 
 pub fetch_odd-requires : goal.fetch_odd-requires
 fetch_odd-requires c =
-    let l = lies _ c.args.start c.args.width (sym c.lies_in_lem.ensures ∙ c.if-lies_in_lem.true) in
+    let l = lies _ c.args.start c.args.width (sym c.lies_in.ensures ∙ c.if-lies_in.true) in
     (c.requires, l.0, l.1)
 
-pub returns-then-lies_in_lem : goal.returns-then-lies_in_lem
-returns-then-lies_in_lem c =
+pub returns-then-lies_in : goal.returns-then-lies_in
+returns-then-lies_in c =
     let a = c.args in
     c.fetch_odd.ensures
-    ∙ sym (number_read a.payload.now a.start a.width (sym c.lies_in_lem.ensures ∙ c.if-lies_in_lem.true))
+    ∙ sym (number_read a.payload.now a.start a.width (sym c.lies_in.ensures ∙ c.if-lies_in.true))
 
 pub returns : goal.returns
 unfolding number_in
-returns c = rw (← c.lies_in_lem.ensures, c.if-lies_in_lem.false)
+returns c = rw (← c.lies_in.ensures, c.if-lies_in.false)

@@ -7,15 +7,15 @@ use Rattle.bits.proofs.put_odd.Goals as goal
 
 pub lay_odd-requires : goal.lay_odd-requires
 lay_odd-requires c =
-    let l = lies _ c.args.start c.args.width (sym c.lies_in_lem.ensures ∙ c.if-lies_in_lem.true) in
+    let l = lies _ c.args.start c.args.width (sym c.lies_in.ensures ∙ c.if-lies_in.true) in
     (c.requires, l.0, l.1)
 
-pub returns-then-lies_in_lem : goal.returns-then-lies_in_lem
-returns-then-lies_in_lem c =
+pub returns-then-lies_in : goal.returns-then-lies_in
+returns-then-lies_in c =
     let a = c.args in
-    put-number a.out.now c.lay_odd.new.out a.start a.width a.value (sym c.lies_in_lem.ensures ∙ c.if-lies_in_lem.true) (search rules)
-    (λ k. (c.slice_known-then-lies_in_lem-1.given k).fits) c.lay_odd.ensures
+    put-number a.out.now c.lay_odd.new.out a.start a.width a.value (sym c.lies_in.ensures ∙ c.if-lies_in.true) (search rules)
+    (λ k. (c.slice_known-then-lies_in-1.given k).fits) c.lay_odd.ensures
 
-pub returns-else-lies_in_lem : goal.returns-else-lies_in_lem
+pub returns-else-lies_in : goal.returns-else-lies_in
 unfolding with_number
-returns-else-lies_in_lem c = rw (← c.lies_in_lem.ensures, c.if-lies_in_lem.false)
+returns-else-lies_in c = rw (← c.lies_in.ensures, c.if-lies_in.false)

@@ -3,6 +3,6 @@ use Rattle.bits.proofs.Run.{run-masked}
 use Rattle.bits.proofs.put_run.Goals as goal
 
 pub returns : goal.returns
-returns c =
+returns c p =
     run-masked c.args.start c.args.width c.args.value p _ _ _ _ c.requires.0 c.ranges.value.fits c.touched.ensures
     c.ones.ensures (c.put_bytes.ensures p)

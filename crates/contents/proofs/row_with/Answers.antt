@@ -12,30 +12,20 @@ use Rattle.image.specs.Read.{key_at, row_count}
 use Rattle.image.specs.Part.{row_place, row_with}
 use Rattle.contents.proofs.row_with.Goals as goal
 
--- what the test of row i answered
-seen : (c : tie.After-row-is invariant-loop decreases-loop) →
-    let b = c.before in
-    let a = b.before.before.before.before.before.before.args in
-    same_key (key_at a.image.now (row_place a.image.now b.before.before.loop.i)) (key_of a.source a.destination a.k) ≡ c.row_is.result
-seen c =
-    let b = c.before in
-    let l = b.before.before in
-    let f = l.before.before in
-    let a = f.before.before.args in
-    let q = b.behind.ensures.0 ∙ ap (λ (x : ℕ). behind x l.loop.i) f.form_of.ensures in
-    sym (c.row_is.ensures ∙ ap (λ (r : ℕ). same_key (key_at a.image.now r) (key_of a.source a.destination a.k)) q)
-
 pub loop-i-init : goal.loop-i-init
 loop-i-init c = (omega arith, below_none _)
 
-pub returns-then-row_is_lem : goal.returns-then-row_is_lem
+pub returns-then-row_is : goal.returns-then-row_is
 unfolding row_with
-returns-then-row_is_lem c =
+returns-then-row_is c =
+    let seen : let a = c.args in same_key (key_at a.image.now (row_place a.image.now c.loop-i.i)) (key_of a.source a.destination a.k) ≡ c.row_is.result = let a = c.args in let q = c.behind.ensures.0 ∙ ap (λ (x : ℕ). behind x c.loop-i.i) c.form_of-form.ensures in sym (c.row_is.ensures ∙ ap (λ (r : ℕ). same_key (key_at a.image.now r) (key_of a.source a.destination a.k)) q) in
     let n = c.byte_at-c.ensures in
-    sym (first-at _ (row_count c.args.image.now) c.loop-i.i (omega (arith, n)) c.loop-i.invariant.1 (seen c ∙ c.if-row_is_lem.true))
+    sym (first-at _ (row_count c.args.image.now) c.loop-i.i (omega (arith, n)) c.loop-i.invariant.1 (seen ∙ c.if-row_is.true))
 
 pub loop-i-preserved : goal.loop-i-preserved
-loop-i-preserved c = (omega arith, below_more _ _ c.loop-i.invariant.1 (seen c ∙ c.if-row_is_lem.false))
+loop-i-preserved c =
+    let seen : let a = c.args in same_key (key_at a.image.now (row_place a.image.now c.loop-i.i)) (key_of a.source a.destination a.k) ≡ c.row_is.result = let a = c.args in let q = c.behind.ensures.0 ∙ ap (λ (x : ℕ). behind x c.loop-i.i) c.form_of-form.ensures in sym (c.row_is.ensures ∙ ap (λ (r : ℕ). same_key (key_at a.image.now r) (key_of a.source a.destination a.k)) q) in
+    (omega arith, below_more _ _ c.loop-i.invariant.1 (seen ∙ c.if-row_is.false))
 
 pub returns : goal.returns
 unfolding row_with

@@ -29,7 +29,7 @@ loop-i-init c = (search rules, search rules, search rules, refl)
 pub loop-i-preserved : goal.loop-i-preserved
 loop-i-preserved c =
     let a = c.args in
-    let room = ltb-true c.loop-i.i (length c.loop-i.widths) c.if-i-widths.true in (
+    let room = ltb-true c.loop-i.i (length c.loop-i.widths) c.if-i-widths.true-raw in (
       omega arith,
       omega (arith, room),
       search rules,

@@ -9,7 +9,7 @@ pub returns-then-i-ge-ROWS : goal.returns-then-i-ge-ROWS
 returns-then-i-ge-ROWS c = told_11 _ _ _ _ c.slot_of-i.ensures _ c.if-i-ge-ROWS.true c.plainly.ensures
 
 pub returns-then-not-is_edition : goal.returns-then-not-is_edition
-returns-then-not-is_edition c = told_27 _ _ _ _ c.slot_of-i.ensures _ (omega (arith, c.if-i-ge-ROWS.false)) (sym c.is_edition.ensures ∙ not-true _ c.if-not-is_edition.true) c.plainly-then-not-is_edition.ensures
+returns-then-not-is_edition c = told_27 _ _ _ _ c.slot_of-i.ensures _ (omega (arith, c.if-i-ge-ROWS.false)) (sym c.is_edition.ensures ∙ not-true _ c.if-not-is_edition.true-raw) c.plainly-then-not-is_edition.ensures
 
 pub returns : goal.returns
 returns c = told_0 _ _ _ _ c.slot_of-i.ensures _ (omega (arith, c.if-i-ge-ROWS.false)) (sym c.is_edition.ensures ∙ not-false _ c.if-not-is_edition.false-raw) _ c.edit_at.ensures c.plainly-2.ensures

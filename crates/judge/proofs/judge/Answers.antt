@@ -18,8 +18,8 @@ walk-walked-requires c =
 
 pub returns : goal.returns
 returns c =
-    let long : let a = c.args in a.n ≤ shortest a.spns.now a.starts.now a.widths.now = omega (arith, c.shortest.ensures, c.if-shortest-n.false) in
     let passed : (c.walk-walked.result.position ≡ 0) × (c.walk-walked.result.end ≤ 14280) = let (a, b) = neither (not (eqb c.walk-walked.result.position 0)) c.is_beyond.result c.if-walked-is_beyond.false in (eqb-true c.walk-walked.result.position 0 (not-false _ a), ltb-false 14280 c.walk-walked.result.end (sym c.is_beyond.ensures ∙ b)) in
+    let long : let a = c.args in a.n ≤ shortest a.spns.now a.starts.now a.widths.now = omega (arith, c.shortest.ensures, c.if-shortest-n.false) in
     let a = c.args in
     let (none, most) = passed in
     let end = c.walk-walked.ensures.1 none in

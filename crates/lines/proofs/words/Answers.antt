@@ -18,7 +18,7 @@ word-requires c = tt
 pub loop-i-preserved : goal.loop-i-preserved
 loop-i-preserved c =
     let a = c.args in
-    (le-min (omega (arith, ltb-true c.loop-i.i a.n c.if-i-most.true)) (omega (arith, c.loop-i.invariant.1, c.loop-i-test.true)), simp length-set c.loop-i.invariant.1)
+    (le-min (omega (arith, ltb-true c.loop-i.i a.n c.if-i-most.true-raw)) (omega (arith, c.loop-i.invariant.1, c.loop-i-test.true)), simp length-set c.loop-i.invariant.1)
 
 pub returns-else-i-most : goal.returns-else-i-most
 returns-else-i-most c =

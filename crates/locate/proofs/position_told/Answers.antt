@@ -16,7 +16,7 @@ returns-then-key-asked c =
 pub returns-then-not-mentions : goal.returns-then-not-mentions
 returns-then-not-mentions c =
     let a = c.args in
-    not-mentioned (width_for a.t.now a.key) a.asked.own a.asked.spn a.key _ (sym c.mentions.ensures ∙ not-true _ c.if-not-mentions.true) _ c.row_of-row.ensures.1 c.row_of-row.ensures.0
+    not-mentioned (width_for a.t.now a.key) a.asked.own a.asked.spn a.key _ (sym c.mentions.ensures ∙ not-true _ c.if-not-mentions.true-raw) _ c.row_of-row.ensures.1 c.row_of-row.ensures.0
 
 pub returns : goal.returns
 returns c =

@@ -12,22 +12,19 @@ use Rattle.lookup.specs.Layout.{row_of, slot_of}
 use Rattle.lookup.proofs.Words.{row_is_lem}
 use Rattle.lookup.proofs.slot_in.Goals as goal
 
--- what the test of the two words answered, of row i
-seen : (c : tie.After-words-are invariant-loop decreases-loop) → row_is (row_of c.before.before.before.before.before.before.args.t.now c.before.before.before.before.loop.i) c.before.before.before.before.before.before.args.key ≡ c.words_are.result
-seen c =
-    let start = c.before.before.before.before.before.before in
-    row_is_lem start.args.t.now (search rules) c.before.before.before.before.loop.i start.args.key (omega arith)
-    ∙ sym c.words_are.ensures
-
 pub loop-i-init : goal.loop-i-init
 loop-i-init c = (search rules, below_none _)
 
 pub returns-then-words_are : goal.returns-then-words_are
 unfolding slot_of
-returns-then-words_are c = sym (first-at _ most_keys c.loop-i.i (search rules) c.loop-i.invariant.1 (seen c ∙ c.if-words_are.true))
+returns-then-words_are c =
+    let seen : row_is (row_of c.args.t.now c.loop-i.i) c.args.key ≡ c.words_are.result = row_is_lem c.args.t.now (search rules) c.loop-i.i c.args.key (omega arith) ∙ sym c.words_are.ensures in
+    sym (first-at _ most_keys c.loop-i.i (search rules) c.loop-i.invariant.1 (seen ∙ c.if-words_are.true))
 
 pub loop-i-preserved : goal.loop-i-preserved
-loop-i-preserved c = (search rules, below_more _ _ c.loop-i.invariant.1 (seen c ∙ c.if-words_are.false))
+loop-i-preserved c =
+    let seen : row_is (row_of c.args.t.now c.loop-i.i) c.args.key ≡ c.words_are.result = row_is_lem c.args.t.now (search rules) c.loop-i.i c.args.key (omega arith) ∙ sym c.words_are.ensures in
+    (search rules, below_more _ _ c.loop-i.invariant.1 (seen ∙ c.if-words_are.false))
 
 pub returns : goal.returns
 unfolding slot_of

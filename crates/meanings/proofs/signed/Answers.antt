@@ -53,16 +53,4 @@ module _ (n : ℤ) (b : Below n) where
   turned_more : nat_abs (back (turned n)) ≡ b.far
   turned_more = rw turned-back
 
-pub overflow_cast-n : goal.overflow_cast-n
-overflow_cast-n c = turned-fits _ (below c.args.n c.ranges.n c.if-n-lt0.true)
 
-pub overflow_add-n : goal.overflow_add-n
-overflow_add-n c = turned-cast _ (below c.args.n c.ranges.n c.if-n-lt0.true)
-
-pub print_decimal-requires : goal.print_decimal-requires
-print_decimal-requires c =
-    let b = below c.args.n c.ranges.n c.if-n-lt0.true in
-    rw (turned_more _ b) (record { fits = omega (arith, b.small) })
-
-pub long-requires : goal.long-requires
-long-requires c = plain c.args.n c.ranges.n c.if-n-lt0.false

@@ -6,7 +6,7 @@ use lib.ListN.{length}
 use Rattle.payload.proofs.may_be_short.Goals as goal
 
 pub returns : goal.returns
-returns c =
+returns c e =
     let a = c.args in
     let n = length a.starts.now in
     let m = length a.widths.now in

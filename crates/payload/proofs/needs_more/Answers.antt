@@ -8,4 +8,4 @@ use Rattle.payload.proofs.needs_more.Goals as goal
 
 pub returns : goal.returns
 unfolding needs_more
-returns c = let e : c.args.width % 64 ≡ c.args.width = omega (arith, l) in rw e (more_by_shift c.args.value c.args.width)
+returns c l = let e : c.args.width % 64 ≡ c.args.width = omega (arith, l) in rw e (more_by_shift c.args.value c.args.width)

@@ -9,7 +9,7 @@ use Rattle.places.proofs.Place.{whole, left-place, shares_skipped}
 use Rattle.places.proofs.lies_skipped.Goals as goal
 
 pub returns : goal.returns
-returns c =
+returns c t =
     let a = c.args in
     let (low, high) = (and-eq-true_iff (leb (a.s1 + whole a.w1) a.s2) (leb c.end_bit.result c.left_bit.result)).0 t in
     shares_skipped a.s1 a.w1 a.s2 a.w2 (leb-true (a.s1 + whole a.w1) a.s2 low)

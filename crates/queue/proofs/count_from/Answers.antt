@@ -8,10 +8,6 @@ use lib.Dec.{eqb}
 use Rattle.queue.proofs.Words.{at_most_one, count_turn, count_end}
 use Rattle.queue.proofs.count_from.Goals as goal
 
--- one more at the most
-few : (c : tie.After-pick invariant-loop decreases-loop) → c.pick.result ≤ 1
-few c = at_most_one c.before.from_in.result c.before.before.before.before.before.before.before.args.from _ c.pick.ensures
-
 pub loop-k-init : goal.loop-k-init
 loop-k-init c = (omega arith, omega arith, zero-add _)
 
@@ -19,7 +15,9 @@ pub overflow_add-k : goal.overflow_add-k
 overflow_add-k c = omega arith
 
 pub overflow_add-count : goal.overflow_add-count
-overflow_add-count c = omega (arith, few c)
+overflow_add-count c =
+    let few : c.pick-count.result ≤ 1 = at_most_one c.from_in.result c.args.from _ c.pick-count.ensures in
+    omega (arith, few)
 
 pub overflow_add-k-in-loop-k : goal.overflow_add-k-in-loop-k
 overflow_add-k-in-loop-k c = omega arith
@@ -29,9 +27,10 @@ loop-k-smaller c = omega arith
 
 pub loop-k-preserved : goal.loop-k-preserved
 loop-k-preserved c =
+    let few : c.pick-count.result ≤ 1 = at_most_one c.from_in.result c.args.from _ c.pick-count.ensures in
     (
       omega arith,
-      omega (arith, few c),
+      omega (arith, few),
       count_turn c.args.row.now c.requires c.args.from c.loop-k.count _ c.loop-k.k _ (omega (arith, c.count_of-n.ensures.0))
           (c.pick-count.ensures ∙ ap (λ (f : ℕ). cond (eqb f c.args.from) 1 0) c.from_in.ensures) c.loop-k.invariant.2,
     )

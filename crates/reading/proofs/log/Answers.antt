@@ -5,12 +5,8 @@ use Rattle.reading.specs.Bytes.{SomeBytes}
 use Rattle.reading.proofs.Chunks.{more_bytes}
 use Rattle.reading.proofs.log.Goals as goal
 
--- the first chunk
-once : (c : tie.After-feed-on invariant-loop decreases-loop) → SomeBytes c.before.before.before.before.args.t.now started c.feed-on.new.0 c.feed-on.result.tally
-once c = rw c.before.start.ensures at c.feed-on.ensures
-
 pub loop-turns-init : goal.loop-turns-init
-loop-turns-init c = h
+loop-turns-init c u h = h
 
 pub overflow_sub-turns : goal.overflow_sub-turns
 overflow_sub-turns c = omega arith
@@ -22,7 +18,11 @@ pub loop-turns-preserved : goal.loop-turns-preserved
 loop-turns-preserved c = λ u h. more_bytes _ _ _ _ _ _ (c.loop-turns.invariant u h) c.feed_on-taken-in-loop-turns.ensures
 
 pub returns-else-taken : goal.returns-else-taken
-returns-else-taken c = c.loop-turns.invariant _ (once c)
+returns-else-taken c =
+    let once : SomeBytes c.args.t.now started c.feed_on-taken.new.t c.feed_on-taken.result.tally = rw c.start.ensures at c.feed_on-taken.ensures in
+    c.loop-turns.invariant _ (once)
 
 pub returns-after-loop-turns : goal.returns-after-loop-turns
-returns-after-loop-turns c = c.loop-turns.invariant _ (once c)
+returns-after-loop-turns c =
+    let once : SomeBytes c.args.t.now started c.feed_on-taken.new.t c.feed_on-taken.result.tally = rw c.start.ensures at c.feed_on-taken.ensures in
+    c.loop-turns.invariant _ (once)

@@ -6,13 +6,8 @@ use Rattle.replay.specs.Bytes.{SomeTrace}
 use Rattle.replay.proofs.Chunks.{more_bytes}
 use Rattle.replay.proofs.day.Goals as goal
 
--- the first chunk
-once : (c : tie.After-feed-on invariant-loop decreases-loop) → let a = c.before.before.before.before.before.args in let o = c.feed-on in
-    SomeTrace (bridge a.c.now a.q.now) a.w.now started (bridge o.new.0 o.new.1.0) o.new.1.1.0 o.result.tally
-once c = rw c.before.start.ensures at c.feed-on.ensures
-
 pub loop-turns-init : goal.loop-turns-init
-loop-turns-init c = h
+loop-turns-init c b u h = h
 
 pub overflow_sub-turns : goal.overflow_sub-turns
 overflow_sub-turns c = omega arith
@@ -24,7 +19,11 @@ pub loop-turns-preserved : goal.loop-turns-preserved
 loop-turns-preserved c = λ b u h. more_bytes _ _ _ _ _ _ _ _ _ (c.loop-turns.invariant b u h) c.feed_on-taken-in-loop-turns.ensures
 
 pub returns-else-taken : goal.returns-else-taken
-returns-else-taken c = c.loop-turns.invariant _ _ (once c)
+returns-else-taken c =
+    let once : let a = c.args in SomeTrace (bridge a.c.now a.q.now) a.w.now started (bridge c.feed_on-taken.new.c c.feed_on-taken.new.q) c.feed_on-taken.new.w c.feed_on-taken.result.tally = rw c.start.ensures at c.feed_on-taken.ensures in
+    c.loop-turns.invariant _ _ (once)
 
 pub returns-after-loop-turns : goal.returns-after-loop-turns
-returns-after-loop-turns c = c.loop-turns.invariant _ _ (once c)
+returns-after-loop-turns c =
+    let once : let a = c.args in SomeTrace (bridge a.c.now a.q.now) a.w.now started (bridge c.feed_on-taken.new.c c.feed_on-taken.new.q) c.feed_on-taken.new.w c.feed_on-taken.result.tally = rw c.start.ensures at c.feed_on-taken.ensures in
+    c.loop-turns.invariant _ _ (once)

@@ -3,4 +3,4 @@ use Rattle.bits.proofs.Run.{merged}
 use Rattle.single.proofs.merge.Goals as goal
 
 pub returns : goal.returns
-returns c = merged 64 c.args.word c.args.mask c.args.bits p l
+returns c p l = merged 64 c.args.word c.args.mask c.args.bits p l

@@ -5,7 +5,7 @@ use Rattle.single.proofs.Cutting.{there, cut_lies, cut_not}
 use Rattle.single.proofs.number_in.Goals as goal
 
 pub returns-then-not-lies_too : goal.returns-then-not-lies_too
-returns-then-not-lies_too c = let a = c.args in sym (cut_not a.word a.start a.width (sym c.lies_too.ensures ∙ not-true _ c.if-not-lies_too.true))
+returns-then-not-lies_too c = let a = c.args in sym (cut_not a.word a.start a.width (sym c.lies_too.ensures ∙ not-true _ c.if-not-lies_too.true-raw))
 
 pub cut-requires : goal.cut-requires
 cut-requires c = sym c.lies_too.ensures ∙ not-false _ c.if-not-lies_too.false-raw

@@ -24,7 +24,7 @@ all_lie-requires c =
 pub returns-then-not-all_lie : goal.returns-then-not-all_lie
 returns-then-not-all_lie c =
     let a = c.args in
-    let e : taking a.starts.now a.widths.now (length a.room.now) ≡ false = rw (c.if-widths-n.false, sym c.all_lie.ensures ∙ not-true _ c.if-not-all_lie.true) in
+    let e : taking a.starts.now a.widths.now (length a.room.now) ≡ false = rw (c.if-widths-n.false, sym c.all_lie.ensures ∙ not-true _ c.if-not-all_lie.true-raw) in
     (sym e, not_taken a.word a.starts.now a.widths.now a.room.now e)
 
 pub slice_bounds-cut_all-end : goal.slice_bounds-cut_all-end

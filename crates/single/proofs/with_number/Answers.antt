@@ -12,7 +12,7 @@ use Rattle.single.proofs.with_number.Goals as goal
 pub returns-then-not-lies : goal.returns-then-not-lies
 returns-then-not-lies c =
     let a = c.args in
-    sym (laid-not a.word a.start a.width a.value c.ranges.word.fits (sym c.lies.ensures ∙ not-true _ c.if-not-lies.true))
+    sym (laid-not a.word a.start a.width a.value c.ranges.word.fits (sym c.lies.ensures ∙ not-true _ c.if-not-lies.true-raw))
 
 pub with_odd-requires : goal.with_odd-requires
 with_odd-requires c =

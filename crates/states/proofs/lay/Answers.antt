@@ -23,8 +23,8 @@ loop-i-init c = (search rules, search rules, search rules, search rules, refl)
 pub loop-i-preserved : goal.loop-i-preserved
 loop-i-preserved c =
     let a = c.args in
-    let given = ltb-true c.loop-i.i (length a.numbers.now) c.if-i-numbers.true in
-    let room = ltb-true c.loop-i.i (length c.loop-i.states) c.if-i-states.true in (
+    let given = ltb-true c.loop-i.i (length a.numbers.now) c.if-i-numbers.true-raw in
+    let room = ltb-true c.loop-i.i (length c.loop-i.states) c.if-i-states.true-raw in (
       omega arith,
       omega (arith, given),
       omega (arith, room),
@@ -34,7 +34,7 @@ loop-i-preserved c =
     )
 
 pub returns-else-i-states : goal.returns-else-i-states
-returns-else-i-states c = c.loop-i.invariant.4 ∙ all_laid _ _ _ c.loop-i.i (omega (arith, ltb-true c.loop-i.i (length c.args.numbers.now) c.if-i-numbers.true, ltb-false c.loop-i.i (length c.loop-i.states) c.if-i-states.false-raw))
+returns-else-i-states c = c.loop-i.invariant.4 ∙ all_laid _ _ _ c.loop-i.i (omega (arith, ltb-true c.loop-i.i (length c.args.numbers.now) c.if-i-numbers.true-raw, ltb-false c.loop-i.i (length c.loop-i.states) c.if-i-states.false-raw))
 
 pub returns-else-i-numbers : goal.returns-else-i-numbers
 returns-else-i-numbers c = c.loop-i.invariant.4 ∙ all_laid _ _ _ c.loop-i.i (omega (arith, ltb-false c.loop-i.i (length c.args.numbers.now) c.if-i-numbers.false-raw))
