@@ -57,9 +57,9 @@ some_true f [] e = never e refl
 some_true f (x ∷ l) e =
     test (f x) (λ t. (x, Memᴰ.head refl, t)) (λ n. let (y, i, t) = some_true f l (rw n at e) in (y, Memᴰ.tail i, t))
 
-some_false {ℓ} : {A : Type ℓ} (f : A → Bool) {l : List A} {x : A} → Memᴰ x l → some_of f l ≡ false → f x ≡ false
-some_false f {l} {x} (Memᴰ.head {x = y} {xs = xs} q) e = test (f x) (λ t. never {b = f y || some_of f xs} (rw (← q, t)) e) (λ n. n)
-some_false f {l} {x} (Memᴰ.tail {x = y} {xs = xs} i) e = some_false f i (test (f y) (λ t. never {b = f y || some_of f xs} (rw t) e) (λ n. rw n at e))
+some_false {ℓ} : {A : Type ℓ} (f : A → Bool) {x : A} {l : List A} → Memᴰ x l → some_of f l ≡ false → f x ≡ false
+some_false f {x} {l} (Memᴰ.head {x = y} {xs = xs} q) e = test (f x) (λ t. never {b = f y || some_of f xs} (rw (← q, t)) e) (λ n. n)
+some_false f {x} {l} (Memᴰ.tail {x = y} {xs = xs} i) e = some_false f i (test (f y) (λ t. never {b = f y || some_of f xs} (rw t) e) (λ n. rw n at e))
 
 conflict_yes : (s : List Message) → conflict s ≡ true → Contradiction s
 unfolding conflict

@@ -45,6 +45,7 @@ fn by_two_bits(x: u32) -> u8
 
 // Which row of J1939-71's table judges the numbers of a width: 1 two bits, 2 one byte, 3 two bytes, 4 four bytes, 5 none; 0 for the width of an SPN that the
 // dictionary does not have.
+#[tactic(auto, unfolding(crate::specs::States::kind_of))]
 pub fn kind_of(width: u32) -> u8
     ensures { result ≡ kind_of width }
 {
@@ -59,6 +60,7 @@ pub fn kind_of(width: u32) -> u8
 }
 
 // What that row says of a number.
+#[tactic(auto, unfolding(crate::specs::States::state_by))]
 pub fn state_by(kind: u8, number: u32) -> u8
     ensures { result ≡ state_by kind number }
 {
