@@ -1,6 +1,6 @@
 -- Demand 1 on the filters, on any words: a call's number is one of a fixed list, that of the first test that applies (specs/Refusals.antt); a
 -- refusal leaves every word; a command leaves every other pair's row. Assumes nothing.
-use mathlib.Core.Path.{◌≡◌, refl, sym, ap, ◌∙◌}
+use mathlib.Core.Path.{subst, ◌≡◌, refl, sym, ap, ◌∙◌}
 use mathlib.Core.Bool.{Bool, true, false, not, ◌&&◌, cond}
 use mathlib.Core.List.{List, [], ◌∷◌}
 use Prim.Native.Nat.{ℕ, ◌+◌, ◌*◌, ◌<◌, ◌≤◌}
@@ -89,7 +89,9 @@ module _ (w : List ℕ) (long : length w ≡ 408) (f t : ℕ) where
   -- ---- the numbers of each call
 
   of_command : (c : Command) → one_of (commanded w f t c).answer.number (0 ∷ numbers_by (λ a. a.number) (command_tests w f t c)) ≡ true
-  of_command c = rw (in_order_lem c) (from-answers (λ o. o.answer.number) (λ a. outcome a w) (λ a. refl) (command_tests w f t c) (carried_out w f t c))
+  of_command c =
+      let P : Outcome → Type 0 = λ o. one_of o.answer.number (0 ∷ numbers_by (λ a. a.number) (command_tests w f t c)) ≡ true in
+      subst P (sym (in_order_lem c)) (from-answers (λ o. o.answer.number) (λ a. outcome a w) (λ a. refl) (command_tests w f t c) (carried_out w f t c))
 
   pub add-answers : (g : ℕ) → one_of (commanded w f t (Add g)).answer.number (0 ∷ 15 ∷ 17 ∷ 16 ∷ []) ≡ true
   add-answers g = of_command (Add g)

@@ -1,7 +1,7 @@
 -- The keys of a history: those whose collection is not empty, each once; and how many they are. Assumes nothing.
 use Prim.Native.Nat.{suc, ◌≤◌}
 use native.Mathlib.Omega.{arith}
-use mathlib.Core.Path.{◌≡◌, refl, sym, ap, ◌∙◌}
+use mathlib.Core.Path.{subst, ◌≡◌, refl, sym, ap, ◌∙◌}
 use mathlib.Core.Bool.{Bool, true, false, ◌&&◌, ◌||◌, not, and-false, or-true}
 use mathlib.Core.List.{List, [], ◌∷◌}
 use lib.ListN.{length}
@@ -51,7 +51,10 @@ once-without k (j ∷ ks) u =
 pub without-one : (k : Key) (ks : List Key) → Once ks → has k ks ≡ true → suc (length (without k ks)) ≡ length ks
 without-one k [] u e = never e refl
 without-one k (j ∷ ks) u e =
-    test (same_key j k) (λ t. rw (← (key_eq j k t), key-refl j) (ap suc (ap length (without_absent j ks u.0))))
+    test (same_key j k)
+    (λ t.
+        let P : Key → Type 0 = λ x. suc (length (without x (j ∷ ks))) ≡ length (j ∷ ks) in
+        subst P (key_eq j k t) (rw (key-refl j) (ap suc (ap length (without_absent j ks u.0)))))
     (λ f. rw (other_way j k f) (ap suc (without-one k ks u.1 (rw f at e))))
 
 -- two lists of the same keys, each once, are as long as each other: the number of keys held is one number, however they are listed

@@ -2,13 +2,16 @@
 use mathlib.Core.Path.{ap, ◌∙◌}
 use Prim.Native.Nat.{ℕ, ◌+◌, ◌-◌, ◌/◌, ◌^◌}
 use native.Mathlib.Omega.{arith}
-use Rattle.places.proofs.Place.{whole, left, left-place, end_runs}
+use Rattle.places.proofs.Place.{whole, left, left-place, end_runs, odd_skips}
 use Rattle.bits.specs.Bits.{bit, bit_at, bit_after}
 use Rattle.bits.proofs.Number.{laid_runs}
 use Rattle.bits.proofs.lay_odd.Goals as goal
 
 pub put_run-requires : goal.put_run-requires
 put_run-requires c = omega (arith, c.requires.1, c.requires.2, end_runs c.args.start c.args.width)
+
+pub overflow_shr-value : goal.overflow_shr-value
+overflow_shr-value c = omega (arith, c.requires.1, odd_skips c.args.width c.requires.0)
 
 pub put_run-requires-2 : goal.put_run-requires-2
 put_run-requires-2 c = omega (arith, c.requires.1, c.requires.2, end_runs c.args.start c.args.width, left-place c.args.start c.args.width, c.left_bit-left.ensures)
