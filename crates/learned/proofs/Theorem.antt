@@ -40,7 +40,7 @@ module _ (h : List Event) (ok : AllInWords h) where
 
   -- of every key the map of its set
   pub map_is : (k : Key) → InBytes k → map_in (words_by h) k ≡ map_of (set_of h k)
-  map_is k b = sym (looks (words_by h) k b) ∙ demand.row_is (calls_by h ok) k
+  map_is k b = sym (looks (words_by h) k b) ∙ demand.row_is_lem (calls_by h ok) k
 
   -- as many rows are used as keys have a set that isn't empty
   pub count-is : key_count (words_by h) ≡ length (keys (kept h))

@@ -10,7 +10,7 @@ same : (n : ℕ) (b : Bool) → b ≡ false → n < 2 ^ 64 → n ≡ wrapped (n 
 same n b e h = rw e (omega (arith, h))
 
 pub returns-then-b : goal.returns-then-b
-returns-then-b c = c.wrapping_add_u64.ensures ∙ more _ _ c.if-b.true
+returns-then-b c = c.wrapping_add_u64.ensures.value ∙ more _ _ c.if-b.true
 
 pub returns : goal.returns
 returns c = same _ _ c.if-b.false (omega arith)

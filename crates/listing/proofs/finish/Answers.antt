@@ -12,15 +12,15 @@ use Rattle.listing.proofs.finish.Goals as goal
 
 pub slice_bounds-page-end : goal.slice_bounds-page-end
 slice_bounds-page-end c =
-    let holds : let a = c.args in Holds 512 (page c.put_listing-n.result c.put_listing-n.new.1.1.0) (page_of a.t.now a.s) = let a = c.args in filled a.t.now a.s _ _ (search rules) c.put_listing-n.ensures in
+    let holds : let a = c.args in Holds 512 (page c.put_listing-n.result c.put_listing-n.new.out) (page_of a.t.now a.s) = let a = c.args in filled a.t.now a.s _ _ (search rules) c.put_listing-n.ensures in
     within _ _ _ (holds)
 
 pub slice_bounds-hand_out-end : goal.slice_bounds-hand_out-end
 slice_bounds-hand_out-end c =
-    let holds : let a = c.args in Holds 512 (page c.put_listing-n.result c.put_listing-n.new.1.1.0) (page_of a.t.now a.s) = let a = c.args in filled a.t.now a.s _ _ (search rules) c.put_listing-n.ensures in
+    let holds : let a = c.args in Holds 512 (page c.put_listing-n.result c.put_listing-n.new.out) (page_of a.t.now a.s) = let a = c.args in filled a.t.now a.s _ _ (search rules) c.put_listing-n.ensures in
     simp length-take (omega (arith, within _ _ _ (holds)))
 
 pub returns : goal.returns
 returns c =
-    let holds : let a = c.args in Holds 512 (page c.put_listing-n.result c.put_listing-n.new.1.1.0) (page_of a.t.now a.s) = let a = c.args in filled a.t.now a.s _ _ (search rules) c.put_listing-n.ensures in
+    let holds : let a = c.args in Holds 512 (page c.put_listing-n.result c.put_listing-n.new.out) (page_of a.t.now a.s) = let a = c.args in filled a.t.now a.s _ _ (search rules) c.put_listing-n.ensures in
     c.hand_out.ensures ∙ finish_is _ _ _ _ (holds)

@@ -13,15 +13,15 @@ use Rattle.replaying.proofs.finish.Goals as goal
 
 pub slice_bounds-page-end : goal.slice_bounds-page-end
 slice_bounds-page-end c =
-    let holds : let a = c.args in Holds 2304 (page c.put_replay-n.result c.put_replay-n.new.1.1.1.0) (page_of (bridge a.c.now a.q.now) a.s) = let a = c.args in filled (bridge a.c.now a.q.now) a.s _ _ (search rules) c.put_replay-n.ensures in
+    let holds : let a = c.args in Holds 2304 (page c.put_replay-n.result c.put_replay-n.new.out) (page_of (bridge a.c.now a.q.now) a.s) = let a = c.args in filled (bridge a.c.now a.q.now) a.s _ _ (search rules) c.put_replay-n.ensures in
     within _ _ _ (holds)
 
 pub slice_bounds-hand_out-end : goal.slice_bounds-hand_out-end
 slice_bounds-hand_out-end c =
-    let holds : let a = c.args in Holds 2304 (page c.put_replay-n.result c.put_replay-n.new.1.1.1.0) (page_of (bridge a.c.now a.q.now) a.s) = let a = c.args in filled (bridge a.c.now a.q.now) a.s _ _ (search rules) c.put_replay-n.ensures in
+    let holds : let a = c.args in Holds 2304 (page c.put_replay-n.result c.put_replay-n.new.out) (page_of (bridge a.c.now a.q.now) a.s) = let a = c.args in filled (bridge a.c.now a.q.now) a.s _ _ (search rules) c.put_replay-n.ensures in
     simp length-take (omega (arith, within _ _ _ (holds)))
 
 pub returns : goal.returns
 returns c =
-    let holds : let a = c.args in Holds 2304 (page c.put_replay-n.result c.put_replay-n.new.1.1.1.0) (page_of (bridge a.c.now a.q.now) a.s) = let a = c.args in filled (bridge a.c.now a.q.now) a.s _ _ (search rules) c.put_replay-n.ensures in
+    let holds : let a = c.args in Holds 2304 (page c.put_replay-n.result c.put_replay-n.new.out) (page_of (bridge a.c.now a.q.now) a.s) = let a = c.args in filled (bridge a.c.now a.q.now) a.s _ _ (search rules) c.put_replay-n.ensures in
     c.hand_out.ensures ∙ finish_is _ _ _ _ (holds)
