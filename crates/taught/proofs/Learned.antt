@@ -2,7 +2,7 @@
 -- Assumes nothing.
 use Prim.Native.Nat.{◌≤◌}
 use native.Mathlib.Omega.{arith}
-use mathlib.Core.Path.{◌≡◌, refl, sym, ap, ◌∙◌}
+use mathlib.Core.Path.{subst, ◌≡◌, refl, sym, ap, ◌∙◌}
 use mathlib.Core.Logic.{◌⊎◌, inl, inr, ⊎_elim}
 use mathlib.Core.Bool.{true}
 use mathlib.Core.List.Memᴰ
@@ -34,7 +34,9 @@ still_in (j ∷ ms) h m k i = still_in ms (Learn j ∷ h) m k (stays h j m k i)
 pub is_in : (ms : List Message) (h : List Event) (m : Message) → Memᴰ m ms → Memᴰ m (since (learned_on h ms) m.key)
 is_in [] h m i = absurd (Memᴰ.not-nil i)
 is_in (j ∷ ms) h m i =
-    ⊎_elim (λ (e : m ≡ j). still_in ms (Learn j ∷ h) m m.key (rw e (joins h j))) (λ d. is_in ms (Learn j ∷ h) m d) (Memᴰ.cases_cons i)
+    ⊎_elim
+    (λ (e : m ≡ j). still_in ms (Learn j ∷ h) m m.key (let P : Message → Type 0 = λ x. Memᴰ x (since (Learn j ∷ h) x.key) in subst P (sym e) (joins h j)))
+    (λ d. is_in ms (Learn j ∷ h) m d) (Memᴰ.cases_cons i)
 
 -- nothing else comes in
 pub came_from_lem : (ms : List Message) (h : List Event) (m : Message) (k : Key) → Memᴰ m (since (learned_on h ms) k) → (Memᴰ m ms × (m.key ≡ k)) ⊎ Memᴰ m (since h k)

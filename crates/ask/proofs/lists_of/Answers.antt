@@ -6,7 +6,7 @@ use Rattle.ask.proofs.lists_of.Goals as goal
 
 pub returns : goal.returns
 returns c =
-    let e = c.«open».ensures in
+    let e = c.open-map.ensures in
     record {
       said = c.ready.ensures ∙ ap ready_by (answer-is _ _ _ _ _ _ e);
       count = λ u. (n-is _ _ _ _ _ _ e u, n_few _ _ _ _ _ _ e u);

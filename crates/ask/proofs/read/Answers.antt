@@ -14,13 +14,13 @@ pub slice_bounds-starts-end : goal.slice_bounds-starts-end
 slice_bounds-starts-end c = starts-room _ _ _ _ _ _ c.lists_of-lists.ensures c.if-answer-ne0.false
 
 pub slice_bounds-read_with-end : goal.slice_bounds-read_with-end
-slice_bounds-read_with-end c = sym (length-take-le _ _ (starts_fit c))
+slice_bounds-read_with-end c = sym (length-take-le _ _ ((starts-room _ _ _ _ _ _ c.lists_of-lists.ensures c.if-answer-ne0.false)))
 
 pub slice_bounds-widths-end : goal.slice_bounds-widths-end
 slice_bounds-widths-end c = widths-room _ _ _ _ _ _ c.lists_of-lists.ensures c.if-answer-ne0.false
 
 pub slice_bounds-read_with-end-2 : goal.slice_bounds-read_with-end-2
-slice_bounds-read_with-end-2 c = sym (length-take-le _ _ (widths-fit c))
+slice_bounds-read_with-end-2 c = sym (length-take-le _ _ ((widths-room _ _ _ _ _ _ c.lists_of-lists.ensures c.if-answer-ne0.false)))
 
 pub returns : goal.returns
 returns c =
