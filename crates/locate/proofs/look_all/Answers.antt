@@ -31,19 +31,18 @@ returns-in-NoMore c =
 pub loop-i-preserved : goal.loop-i-preserved
 loop-i-preserved c =
     let a = c.args in
-    let f = c.next-1.given in
     let m = 16 - (c.loop-i.i + 1) in
     let n = 16 - c.loop-i.i in
     (
       omega arith,
       simp length-set c.loop-i.invariant.1,
       omega (arith, c.loop-i.invariant.2, c.one_for-count.ensures.1),
-      count_turn (width_for a.t.now) a.t.now a.asked.own a.asked.spn m n f.0.0 (key_found c.loop-i.next) _ (omega arith) (ap key_found f.1) c.next_key-next.ensures
+      count_turn (width_for a.t.now) a.t.now a.asked.own a.asked.spn m n c.in-Found.key (key_found c.loop-i.next) _ (omega arith) (ap key_found c.in-Found.is) c.next_key-next.ensures
           c.position_told-position.result c.position_told-position.ensures c.loop-i.count c.one_for-count.result c.one_for-count.ensures.0
           ∙ c.loop-i.invariant.3,
-      position-laid (width_for a.t.now) a.t.now a.asked.own a.asked.spn m n f.0.0 (key_found c.loop-i.next) _ (omega arith) (ap key_found f.1) c.next_key-next.ensures
+      position-laid (width_for a.t.now) a.t.now a.asked.own a.asked.spn m n c.in-Found.key (key_found c.loop-i.next) _ (omega arith) (ap key_found c.in-Found.is) c.next_key-next.ensures
           c.loop-i.positions _ c.loop-i.i c.position_told-position.result (omega (arith, c.loop-i.invariant.1)) c.position_told-position.ensures c.loop-i.invariant.4,
-      zeros_left (width_for a.t.now) a.t.now a.asked.own a.asked.spn m n f.0.0 (key_found c.loop-i.next) _ (omega arith) (ap key_found f.1) c.next_key-next.ensures
+      zeros_left (width_for a.t.now) a.t.now a.asked.own a.asked.spn m n c.in-Found.key (key_found c.loop-i.next) _ (omega arith) (ap key_found c.in-Found.is) c.next_key-next.ensures
           c.loop-i.positions c.loop-i.positions c.loop-i.i c.position_told-position.result (omega (arith, c.loop-i.invariant.1)) c.position_told-position.ensures c.loop-i.invariant.5,
     )
 

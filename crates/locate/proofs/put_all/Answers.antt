@@ -30,16 +30,15 @@ returns-in-NoMore c =
 pub loop-i-preserved : goal.loop-i-preserved
 loop-i-preserved c =
     let a = c.args in
-    let f = c.next-1.given in
     let m = 16 - (c.loop-i.i + 1) in
     let n = 16 - c.loop-i.i in (
       omega arith,
       search rules,
-      put_turn (width_for a.t.now) a.t.now a.asked.own a.asked.spn m n f.0.0 (key_found c.loop-i.next) _ (omega arith) (ap key_found f.1) c.next_key-next.ensures _
-          (position_now (width_for a.t.now) a.t.now a.asked.own a.asked.spn m n f.0.0 (key_found c.loop-i.next) _ (omega arith) (ap key_found f.1) c.next_key-next.ensures a.positions.now c.loop-i.i c.loop-i.invariant.3)
+      put_turn (width_for a.t.now) a.t.now a.asked.own a.asked.spn m n c.in-Found.key (key_found c.loop-i.next) _ (omega arith) (ap key_found c.in-Found.is) c.next_key-next.ensures _
+          (position_now (width_for a.t.now) a.t.now a.asked.own a.asked.spn m n c.in-Found.key (key_found c.loop-i.next) _ (omega arith) (ap key_found c.in-Found.is) c.next_key-next.ensures a.positions.now c.loop-i.i c.loop-i.invariant.3)
           (page c.loop-i.at c.loop-i.log) _ c.put_told-at.ensures
           ∙ c.loop-i.invariant.2,
-      position-next (width_for a.t.now) a.t.now a.asked.own a.asked.spn m n f.0.0 (key_found c.loop-i.next) _ (omega arith) (ap key_found f.1) c.next_key-next.ensures a.positions.now c.loop-i.i c.loop-i.invariant.3,
+      position-next (width_for a.t.now) a.t.now a.asked.own a.asked.spn m n c.in-Found.key (key_found c.loop-i.next) _ (omega arith) (ap key_found c.in-Found.is) c.next_key-next.ensures a.positions.now c.loop-i.i c.loop-i.invariant.3,
     )
 
 pub returns : goal.returns

@@ -37,19 +37,18 @@ returns-in-NoMore c =
 pub loop-i-preserved : goal.loop-i-preserved
 loop-i-preserved c =
     let t = c.args.t.now in
-    let f = c.next-1.given in
-    let k = f.0.0 in
+    let k = c.in-Found.key in
     let m = 16 - (c.loop-i.i + 1) in
     let n = 16 - c.loop-i.i in
     let w = c.bit-mark.ensures.0 ∙ ap (λ (x : Bool). cond {A = ℕ} x 1 0) c.is_saved-saved.ensures in (
       omega arith,
       simp length-set c.loop-i.invariant.1,
       search rules,
-      count_turn t m n k (key_found c.loop-i.next) _ (omega arith) (ap key_found f.1) c.next_key-next.ensures c.loop-i.count _ _ c.is_saved-saved.ensures c.bit-mark.ensures.0 ∙ c.loop-i.invariant.3,
-      mark-laid t m n k (key_found c.loop-i.next) _ (omega arith) (ap key_found f.1) c.next_key-next.ensures c.loop-i.marks (marks_of t) c.loop-i.i c.bit-mark.result (omega arith) w c.loop-i.invariant.4,
-      zeros_left t m n k (key_found c.loop-i.next) _ (omega arith) (ap key_found f.1) c.next_key-next.ensures c.loop-i.marks (marks_of t) c.loop-i.i c.bit-mark.result (omega arith) w c.loop-i.invariant.5,
+      count_turn t m n k (key_found c.loop-i.next) _ (omega arith) (ap key_found c.in-Found.is) c.next_key-next.ensures c.loop-i.count _ _ c.is_saved-saved.ensures c.bit-mark.ensures.0 ∙ c.loop-i.invariant.3,
+      mark-laid t m n k (key_found c.loop-i.next) _ (omega arith) (ap key_found c.in-Found.is) c.next_key-next.ensures c.loop-i.marks (marks_of t) c.loop-i.i c.bit-mark.result (omega arith) w c.loop-i.invariant.4,
+      zeros_left t m n k (key_found c.loop-i.next) _ (omega arith) (ap key_found c.in-Found.is) c.next_key-next.ensures c.loop-i.marks (marks_of t) c.loop-i.i c.bit-mark.result (omega arith) w c.loop-i.invariant.5,
       omega (arith, c.loop-i.invariant.6, c.body_len-bodies.ensures.1),
-      length_turn t m n k (key_found c.loop-i.next) _ (omega arith) (ap key_found f.1) c.next_key-next.ensures c.loop-i.bodies _ _ c.is_saved-saved.ensures c.body_len-bodies.ensures.0 ∙ c.loop-i.invariant.7,
+      length_turn t m n k (key_found c.loop-i.next) _ (omega arith) (ap key_found c.in-Found.is) c.next_key-next.ensures c.loop-i.bodies _ _ c.is_saved-saved.ensures c.body_len-bodies.ensures.0 ∙ c.loop-i.invariant.7,
     )
 
 pub returns : goal.returns

@@ -24,8 +24,7 @@ loop-i-init c =
 pub put_body-place-requires : goal.put_body-place-requires
 put_body-place-requires c =
     let a = c.args in
-    let f = c.next-1.given in
-    mark_now a.t.now (16 - (c.loop-i.i + 1)) (16 - c.loop-i.i) f.0.0 (key_found c.loop-i.next) (next_key a.t.now f.0.0) (omega arith) (ap key_found f.1) refl a.marks.now c.loop-i.i c.loop-i.invariant.3
+    mark_now a.t.now (16 - (c.loop-i.i + 1)) (16 - c.loop-i.i) c.in-Found.key (key_found c.loop-i.next) (next_key a.t.now c.in-Found.key) (omega arith) (ap key_found c.in-Found.is) refl a.marks.now c.loop-i.i c.loop-i.invariant.3
 
 pub returns-in-NoMore : goal.returns-in-NoMore
 returns-in-NoMore c =
@@ -36,16 +35,15 @@ pub loop-i-preserved : goal.loop-i-preserved
 loop-i-preserved c =
     let a = c.args in
     let t = a.t.now in
-    let f = c.next-1.given in
     let m = 16 - (c.loop-i.i + 1) in
     let n = 16 - c.loop-i.i in
-    let k = f.0.0 in (
+    let k = c.in-Found.key in (
       omega arith,
       search rules,
-      bodies_turn t m n k (key_found c.loop-i.next) _ (omega arith) (ap key_found f.1) c.next_key-next.ensures _ (page c.loop-i.place c.loop-i.out) _
-          (mark_now t m n k (key_found c.loop-i.next) _ (omega arith) (ap key_found f.1) c.next_key-next.ensures a.marks.now c.loop-i.i c.loop-i.invariant.3) c.put_body-place.ensures
+      bodies_turn t m n k (key_found c.loop-i.next) _ (omega arith) (ap key_found c.in-Found.is) c.next_key-next.ensures _ (page c.loop-i.place c.loop-i.out) _
+          (mark_now t m n k (key_found c.loop-i.next) _ (omega arith) (ap key_found c.in-Found.is) c.next_key-next.ensures a.marks.now c.loop-i.i c.loop-i.invariant.3) c.put_body-place.ensures
           ∙ c.loop-i.invariant.2,
-      mark-next t m n k (key_found c.loop-i.next) _ (omega arith) (ap key_found f.1) c.next_key-next.ensures a.marks.now c.loop-i.i c.loop-i.invariant.3,
+      mark-next t m n k (key_found c.loop-i.next) _ (omega arith) (ap key_found c.in-Found.is) c.next_key-next.ensures a.marks.now c.loop-i.i c.loop-i.invariant.3,
     )
 
 pub returns : goal.returns

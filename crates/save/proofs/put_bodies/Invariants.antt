@@ -13,7 +13,7 @@ abbrev pub invariant-loop-i : goal.invariant-loop-i
 invariant-loop-i l =
     (l.i ≤ 16) × (length l.out ≡ length l.initial.out)
     × (put_all (page l.place l.out) (bodies_pieces (map_in l.t) (rest l.t (16 - l.i) (key_found l.next))) ≡ put_all (page l.at l.initial.out) (bodies_pieces (map_in l.t) (saved_keys l.t)))
-    × (drop l.i l.ml ≡ marks (16 - l.i) l.t (key_found l.next))
+    × (drop l.i l.marks ≡ marks (16 - l.i) l.t (key_found l.next))
 
 abbrev pub decreases-loop-i : goal.decreases-loop-i
 decreases-loop-i l = 16 - l.i

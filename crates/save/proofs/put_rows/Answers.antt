@@ -31,17 +31,16 @@ pub loop-i-preserved : goal.loop-i-preserved
 loop-i-preserved c =
     let a = c.args in
     let t = a.t.now in
-    let f = c.next-1.given in
     let m = 16 - (c.loop-i.i + 1) in
     let n = 16 - c.loop-i.i in
-    let k = f.0.0 in (
+    let k = c.in-Found.key in (
       omega arith,
       search rules,
       search rules,
-      rows_turn t m n k (key_found c.loop-i.next) _ (omega arith) (ap key_found f.1) c.next_key-next.ensures a.form c.loop-i.body _ _ (page c.loop-i.place c.loop-i.out) _
-          (mark_now t m n k (key_found c.loop-i.next) _ (omega arith) (ap key_found f.1) c.next_key-next.ensures a.marks.now c.loop-i.i c.loop-i.invariant.4) c.body_len-len.ensures.0 c.put_row-place.ensures
+      rows_turn t m n k (key_found c.loop-i.next) _ (omega arith) (ap key_found c.in-Found.is) c.next_key-next.ensures a.form c.loop-i.body _ _ (page c.loop-i.place c.loop-i.out) _
+          (mark_now t m n k (key_found c.loop-i.next) _ (omega arith) (ap key_found c.in-Found.is) c.next_key-next.ensures a.marks.now c.loop-i.i c.loop-i.invariant.4) c.body_len-len.ensures.0 c.put_row-place.ensures
           ∙ c.loop-i.invariant.3,
-      mark-next t m n k (key_found c.loop-i.next) _ (omega arith) (ap key_found f.1) c.next_key-next.ensures a.marks.now c.loop-i.i c.loop-i.invariant.4,
+      mark-next t m n k (key_found c.loop-i.next) _ (omega arith) (ap key_found c.in-Found.is) c.next_key-next.ensures a.marks.now c.loop-i.i c.loop-i.invariant.4,
     )
 
 pub returns : goal.returns

@@ -13,7 +13,7 @@ abbrev pub invariant-loop-i : goal.invariant-loop-i
 invariant-loop-i l =
     (l.i ≤ 16) × (length l.out ≡ length l.initial.out) × (l.body ≤ 2042 + 1275 * l.i)
     × (put_all (page l.place l.out) (row_pieces l.form (edition_in l.t) (map_in l.t) l.body (rest l.t (16 - l.i) (key_found l.next))) ≡ put_all (page l.at l.initial.out) (row_pieces l.form (edition_in l.t) (map_in l.t) l.from (saved_keys l.t)))
-    × (drop l.i l.ml ≡ marks (16 - l.i) l.t (key_found l.next))
+    × (drop l.i l.marks ≡ marks (16 - l.i) l.t (key_found l.next))
 
 abbrev pub decreases-loop-i : goal.decreases-loop-i
 decreases-loop-i l = 16 - l.i
