@@ -79,7 +79,7 @@ TABLE = [
     replays("./replay < samples", NOTHING, "reading stopped, and only what came before is replayed: Is a directory", 1),
     replays("./replay > /dev/full", "", "the replay could not be written: No space left on device", 1),
     replays("./replay >&-", "", "the replay could not be written: Bad file descriptor", 1),
-    replays("TMPDIR=/no/such/folder ./replay", "", "no temporary file could be made: set TMPDIR to ", 1),
+    replays("TMPDIR=/no/such/folder ./replay", TOLD),
     replays("./replay samples/day.txt", bridges.replayed((ROOT / "samples" / "day.txt").read_bytes()), "this trace looks like text, and a trace is records of 14 bytes: tools/mktrace makes them "),
 ]
 
@@ -184,7 +184,7 @@ CHECKS = TABLE + [
     ("README.md has what ./replay writes of samples/day.trace", shown_in_readme),
     hands.help_of("./replay --help"),
     hands.help_of("tools/mktrace --help"),
-    hands.closed_pipe("./replay samples/day.trace", (1, "replay: the replay could not be written: its reader is gone\n")),
+    hands.closed_pipe("./replay samples/day.trace", (1, "replay: the replay could not be written: Broken pipe\n")),
     hands.closed_pipe("tools/mktrace samples/day.txt", (-signal.SIGPIPE, "")),
     ("./replay from non-blocking standard input", lambda: hands.not_blocking("./replay", DAY[:70], bridges.replayed(DAY[:70]).encode())),
     ("./replay, and SIGTERM to the script", lambda: hands.stopped(signal.SIGTERM, "script", "./replay")),

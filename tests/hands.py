@@ -3,6 +3,7 @@
 What they must write was worked out by hand from docs/WIRE.md and 01's record, not taken from the tools."""
 import os
 import pathlib
+import re
 import shutil
 import signal
 import subprocess
@@ -137,7 +138,7 @@ TABLE = [
     lists("./list < samples", NOTHING, "reading stopped, and only what came before is listed: Is a directory", 1),
     lists("./list > /dev/full", "", "the listing could not be written: No space left on device", 1),
     lists("./list >&-", "", "the listing could not be written: Bad file descriptor", 1),
-    lists("TMPDIR=/no/such/folder ./list", "", "no temporary file could be made: set TMPDIR to ", 1),
+    lists("TMPDIR=/no/such/folder ./list", LISTED),
     lists("./list samples/trace.txt", model.listing(TRACE), "this log looks like text, and a log is records of 13 bytes: tools/candump2log makes them "),
     lists("./list < samples/trace.txt", model.listing(TRACE), "this log looks like text, "),
 
@@ -224,10 +225,10 @@ def of_process(pid, file):
 
 
 def program_of(child):
-    """The process of the program, once the script has started it: its words are those of the script's last lines."""
+    """The process of the program, once the script has started it: its words are its file and a dash (tools/program.sh)."""
     for _ in range(100 * WAIT):
         for pid in of_process(child.pid, "task/%d/children" % child.pid).split():
-            if "say-done" in of_process(pid, "cmdline"):
+            if re.search(r"/crates/\w+/out/\w+\0-", of_process(pid, "cmdline")):
                 return int(pid)
         time.sleep(0.01)
     raise TimeoutError("the program was not started")
@@ -258,16 +259,24 @@ def stopped(number, which, command="./list"):
     return differ((child.returncode, out), (1, b""), "status and standard output") + ("" if err.endswith(said) else "standard error: %r\n" % err)
 
 
+# Stand-ins for rt, as it is started in the folder of the program list: what it says goes to standard error, and what the program writes to standard output.
 PROVES = """#!/bin/sh
+[ "$*" = run ] && [ "${PWD##*/crates/}" = list ] || exit 2
+exec >&2
+echo 'rt: chose --jobs 2 for answers'
 echo 'fn answers::number: proved'
-echo 'rt: answers proved (1 s)'
-echo 'rt: list proved (1 s)'
-mkdir -p target/bin && cp "$RATTLE_HOME/program" target/bin/list
-echo "rt: list ran, and wrote what its file 'stdout' has (0 s)"
-echo 'rt: ok, 2 crates proved'
+echo 'crate answers: modules loaded=0 checked=40'
+echo 'logic=proved functions=1 statements=trusted'
+echo 'rt: chose --jobs 2 for list'
+echo 'library answers: modules loaded=25 checked=0'
+echo 'crate list: modules loaded=0 checked=97'
+echo 'logic=proved functions=7 axioms=8 statements=trusted'
+mkdir -p out && cp "$RATTLE_HOME/program" out/list
+echo 'rt: running out/list; to give it other input, run that file yourself'
 """
 REFUSES = """#!/bin/sh
-echo 'rt: answers NOT PROVED (exit 1, 1 s)'
+echo 'fn answers::number: not proved' >&2
+echo 'rt: the library answers did not build, so nothing above it was checked' >&2
 exit 1
 """
 
@@ -300,11 +309,12 @@ def in_pieces(command, first, piece, count, wanted):
     return wrong, "%.1f s, %d KB of memory at the most, %d KB after the first piece" % (took, most, before)
 
 
-def on_a_fresh_copy(rt, target, status, wrote, said, script="list", prints="listed", option=""):
+def on_a_fresh_copy(rt, built, status, wrote, said, script="list", prints="listed", option=""):
     """A script in a copy that has nothing built, with a stand-in for rt; standard error must be these lines, {} being the copy."""
     with tempfile.TemporaryDirectory() as folder:
         copy, kit = pathlib.Path(folder, "copy").resolve(), pathlib.Path(folder, "kit")
-        (copy / "crates").mkdir(parents=True)
+        for program in ("list", "keep", "shelves", "hired", "replay"):
+            (copy / "crates" / program).mkdir(parents=True)
         (kit / "bin").mkdir(parents=True)
         (copy / "tools").mkdir()
         (copy / "docs").mkdir()
@@ -314,14 +324,14 @@ def on_a_fresh_copy(rt, target, status, wrote, said, script="list", prints="list
         (copy / "crates.txt").write_text("answers:\nother: answers\nlist: answers io   # a program\nkeep: answers io\nshelves: answers io\nhired: answers io\nreplay: answers io\n")
         (kit / "bin" / "rt").write_text(rt)
         (kit / "bin" / "rt").chmod(0o755)
-        (kit / "program").write_text(f"#!/bin/sh\necho {prints}\necho done >&3\n")
+        (kit / "program").write_text(f"#!/bin/sh\necho {prints}\n")
         (kit / "program").chmod(0o755)
         emulator = kit / "on" / os.uname().machine / "toolchain" / "bin" / "qemu-x86_64"   # where this machine is not x86-64: it starts the program behind the loader's words
         emulator.parent.mkdir(parents=True)
         emulator.write_text("#!/bin/sh\nshift 3\nexec \"$@\"\n")
         emulator.chmod(0o755)
-        if target == "a file":
-            (copy / "target").write_text("")
+        if built == "a file":
+            (copy / "crates" / "list" / "out").write_text("")
         code, out, err = run("'%s/%s' %s" % (copy, script, option), TWO, env={**os.environ, "RATTLE_HOME": str(kit)})
         again = run("'%s/%s' %s" % (copy, script, option), TWO, env={**os.environ, "RATTLE_HOME": str(kit)})[1:] if status == 0 else (wrote, "")
     return differ((code, out), (status, wrote), "status and standard output") + differ(err, said.replace("{}", str(copy)), "standard error") + differ(again, (wrote, ""), "once more")
@@ -332,9 +342,9 @@ CHECKS = TABLE + [
     help_of("./save --help"),
     help_of("tools/mklog --help"),
     help_of("tools/candump2log --help"),
-    closed_pipe("./list samples/two-records.log", (1, "list: the listing could not be written: its reader is gone\n")),
-    closed_pipe("./list --image samples/shelf.image", (1, "list: the listing could not be written: its reader is gone\n")),
-    closed_pipe("./save samples/shelf.log", (1, "save: the image could not be written: its reader is gone\n")),
+    closed_pipe("./list samples/two-records.log", (1, "list: the listing could not be written: Broken pipe\n")),
+    closed_pipe("./list --image samples/shelf.image", (1, "list: the listing could not be written: Broken pipe\n")),
+    closed_pipe("./save samples/shelf.log", (1, "save: the image could not be written: Broken pipe\n")),
     closed_pipe("tools/mklog samples/two-records.txt", (-signal.SIGPIPE, "")),
     closed_pipe("tools/candump2log samples/trace.txt", (-signal.SIGPIPE, "")),
     ("./list from non-blocking standard input", lambda: not_blocking("./list", TWO, LISTED.encode())),
@@ -351,8 +361,8 @@ CHECKS = TABLE + [
     ("./save on a fresh copy, a stand-in for rt proves it", lambda: on_a_fresh_copy(PROVES.replace("list", "keep"), "", 0, b"listed\n",
         "save: proving and building the program first, 2 crates; that takes some minutes\nsave: answers is proved, 1 left\nsave: keep is proved, 0 left\n", "save")),
     ("./list on a fresh copy, a stand-in for rt refuses it", lambda: on_a_fresh_copy(REFUSES, "", 1, b"",
-        "list: proving and building the program first, 2 crates; that takes some minutes\nrt: answers NOT PROVED (exit 1, 1 s)\n"
-        "list: the program could not be built: rt check list, in {}, says why\n")),
+        "list: proving and building the program first, 2 crates; that takes some minutes\nfn answers::number: not proved\n"
+        "rt: the library answers did not build, so nothing above it was checked\nlist: the program could not be built: rt run, in {}/crates/list, says why\n")),
     ("./list on a copy that cannot be written", lambda: on_a_fresh_copy(PROVES, "a file", 1, b"",
-        "list: the program has to be built first, and {}/target cannot be written: copy this folder to a place where you may write, and use the list in there\n")),
+        "list: the program has to be built first, and {}/crates/list/out cannot be written: copy this folder to a place where you may write, and use the list in there\n")),
 ]

@@ -6,8 +6,9 @@
 #   CC       the same with options; FLAGS has them without -O2
 #   RUN      what runs its programs: nothing here, the kit's emulator on another machine
 set -e
-rt staticlib firmware >target/staticlib.log 2>&1 || { cat target/staticlib.log; exit 1; }
-LIBRARY=target/staticlib/libfirmware.a
+mkdir -p target
+(cd crates/firmware && rt lib) >target/firmware.log 2>&1 || { cat target/firmware.log; exit 1; }
+LIBRARY=crates/firmware/out/libfirmware.a
 WORK=target/c
 mkdir -p "$WORK"
 for SPNS in spns spns2004; do

@@ -6,7 +6,6 @@
 #   one      the same with its article
 #   such     and with what it is
 #   example  a command that works
-#   writes   what it writes in one word: listing, image, report, replay
 # and then calls `read_from FILE` and `run_program`.
 set -u
 
@@ -30,36 +29,37 @@ find_rt() {
     if [ -n "${RATTLE_HOME:-}" ] && [ -x "$RATTLE_HOME/bin/rt" ]; then rt=$RATTLE_HOME/bin/rt; else rt=$(command -v rt) || die "$kit_missing"; fi
 }
 
-# How many crates of this repository the program is made of.
+# The crates of this repository that the program is made of, one a line, each below those that stand on it, as `rt` proves them.
 crates_of_program() {
     awk -F: -v program="$crate" '
         function visit(name,    below, i, n) {
             if (!(name in deps) || seen[name]++) return
             n = split(deps[name], below, " ")
             for (i = 1; i <= n; i++) visit(below[i])
-            count++
+            print name
         }
         { sub(/#.*/, "") }
-        NF > 1 { deps[$1] = $2 }
-        END { visit(program); print count + 0 }' "$root/crates.txt"
+        NF > 1 { split($1, words, " "); deps[words[1]] = $2 }
+        END { visit(program) }' "$root/crates.txt"
 }
 
-# Proves and builds the program, with a line on standard error for each crate that is proved.
+# Proves and builds the program, with a line on standard error for each crate that is proved. `rt run` also runs it, here on no input and for nobody to read.
 build() {
     find_rt
-    said=$root/target/$crate.said
-    (mkdir -p "$root/target" && : >"$said") 2>/dev/null ||
-        die "the program has to be built first, and $root/target cannot be written: copy this folder to a place where you may write, and use the $name in there"
-    left=$(crates_of_program)
-    printf '%s: proving and building the program first, %d crates; that takes some minutes\n' "$name" "$left" >&2
-    (cd "$root" && "$rt" check "$crate") </dev/null 2>&1 | tee "$said" | while read -r who proved what rest; do
-        [ "$who $what" = 'rt: proved' ] || continue
-        left=$((left - 1))
-        printf '%s: %s is proved, %d left\n' "$name" "$proved" "$left" >&2
+    said=$root/crates/$crate/out/build.said
+    (mkdir -p "$root/crates/$crate/out" && : >"$said") 2>/dev/null ||
+        die "the program has to be built first, and $root/crates/$crate/out cannot be written: copy this folder to a place where you may write, and use the $name in there"
+    crates=$(crates_of_program)
+    printf '%s: proving and building the program first, %d crates; that takes some minutes\n' "$name" "$(echo "$crates" | wc -l)" >&2
+    (cd "$root/crates/$crate" && "$rt" run) </dev/null 2>&1 >/dev/null | tee "$said" | while read -r what which rest; do
+        case $what in
+        crate) at=${which%:} ;;
+        logic=proved) printf '%s: %s is proved, %d left\n' "$name" "$at" "$(echo "$crates" | awk -v at="$at" 'above { n++ } $0 == at { above = 1 } END { print n + 0 }')" >&2 ;;
+        esac
     done
-    if ! grep -q '^rt: ok' "$said" || [ ! -x "$program" ]; then
+    if ! grep -q '^rt: running out/' "$said" || [ ! -x "$program" ]; then
         cat "$said" >&2
-        die "the program could not be built: rt check $crate, in $root, says why"
+        die "the program could not be built: rt run, in $root/crates/$crate, says why"
     fi
     touch "$program"
 }
@@ -96,8 +96,8 @@ read_from() {
 
 # Sets `program`, built, and `emulated`: the program is for x86-64, and elsewhere the kit's emulator in that folder runs it.
 prepare_program() {
-    program=$root/target/bin/$crate
-    if [ ! -x "$program" ] || [ -n "$(find "$root/crates" "$root/crates.txt" -newer "$program" \( -name '*.rt' -o -name '*.antt' -o -name crates.txt \) 2>/dev/null | head -n 1)" ]; then
+    program=$root/crates/$crate/out/$crate
+    if [ ! -x "$program" ] || [ -n "$(find "$root/crates" "$root/crates.txt" -name out -prune -o -newer "$program" \( -name '*.rt' -o -name '*.antt' -o -name crates.txt \) -print 2>/dev/null | head -n 1)" ]; then
         build
     fi
     machine=$(uname -m)
@@ -116,18 +116,12 @@ stop() {
     kill -"$1" $$
 }
 
-# Runs the program on what `read_from` found; further words go to it. The status is 0 where it has read and written everything, and 1 where not and it has said why.
+# Runs the program on what `read_from` found; further words go to it, behind a first one that it does not look at. The status is the program's: 0 where it has read and written
+# everything (crates/reading/src/lib.rt), and 1 where not and it has said why.
 run() {
     prepare_program
     made=$(made_by)
     [ -z "$made" ] || ! is_text "$input" || printf '%s: this %s looks like text, and %s is %s\n' "$name" "$kind" "$one" "$made" >&2
-
-    # The program has no exit status. Given a word, it writes `done` on descriptor 3 once it has read everything and written everything (crates/reading/src/lib.rt);
-    # where anything else happens to it, that is missing. Descriptors 3 and 4 are the two ends of a file that has no name any more.
-    note=$(mktemp 2>/dev/null) || die 'no temporary file could be made: set TMPDIR to a folder where you may write'
-    exec 3>"$note" 4<"$note"
-    rm -f "$note"
-    printf 'all ' 2>/dev/null >&3 || die 'a temporary file could not be written: make room, or set TMPDIR to another folder'
 
     pid=
     for signal in HUP INT QUIT TERM; do
@@ -137,18 +131,15 @@ run() {
 
     # In the background, so that signals are heard while it runs; there standard input has to be named, as 5.
     if [ "$input" = /dev/stdin ]; then exec 5<&0; else exec 5<"$input"; fi
-    set -- "$program" say-done "$@"
+    set -- "$program" - "$@"
     [ -z "$emulated" ] || set -- "$emulated/bin/qemu-x86_64" "$emulated/lib/ld-linux-x86-64.so.2" --library-path "$emulated/lib" "$@"
-    "$@" <&5 4<&- 5<&- &
+    "$@" <&5 5<&- &
     pid=$!
     wait "$pid"
     status=$?
     pid=
-    read -r word <&4
-    [ "$word" != 'all done' ] || return 0
-    [ "$status" -ne 141 ] || die "the $writes could not be written: its reader is gone"
     [ "$status" -le 128 ] || die "the program was stopped by signal $((status - 128)) before it was done"
-    return 1
+    [ "$status" -eq 0 ]
 }
 
 # The same, and ends the script.

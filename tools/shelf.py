@@ -131,7 +131,7 @@ def numbers_of(line, word, count):
 
 
 def no_fact(line):
-    return Wrong(f"the program printed what is no fact, {clean(line)[:40]!r}: build it again, rm -r target")
+    return Wrong(f"the program printed what is no fact, {clean(line)[:40]!r}: build it again, rm -r crates/*/out")
 
 
 def read_shelf(facts):
