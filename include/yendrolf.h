@@ -3,7 +3,7 @@
  * ports, and the bridge itself with what waits and what is counted at it. examples/hitch.c has the calls at work, examples/long.c those on long messages, examples/hire.c those on a
  * hire, examples/bridge.c those on a bridge; examples/socketcan.c is a loop on Linux' CAN sockets.
  *
- * Link with the archive that `rt staticlib firmware` writes (target/staticlib/libfirmware.a). Every function of it is proved against its contract
+ * Link with the archive that `rt lib` writes in crates/firmware (out/libfirmware.a there). Every function of it is proved against its contract
  * (crates/firmware); this header is not: tests/header and tests/compare/run compare it with the archive.
  *
  * What it needs:
