@@ -9,30 +9,25 @@ use Rattle.load.proofs.Loaded.{all_bytes, room, still_long, checked}
 use Rattle.load.proofs.check.Goals as goal
 
 -- what the page holds once the image is laid into it
-module _ (c : tie.After-lay) where
-  abbrev image : List ℕ
-  image = c.before.before.before.before.before.before.before.args.image.now
-
-  abbrev table : List ℕ
-  table = c.before.before.before.before.feed.new.0
-
-  abbrev page : List ℕ
-  page = c.lay.new.1.1.0
-
-  bytes : Bytes image
-  bytes = all_bytes image (λ i. (c.before.before.before.before.before.before.shared-slice-known.given i).fits)
-
-  small : c.lay.result ≤ 2610
-  small = room image table c.before.before.before.before.feed.ensures bytes _ c.lay.result page c.before.before.form_of.ensures c.lay.ensures.0
-
-  long : length page ≡ 2610
-  long = still_long image table c.before.before.before.before.feed.ensures bytes _ c.lay.result page c.before.before.form_of.ensures c.lay.ensures.0 c.lay.ensures.1
-
 pub slice_bounds-whole-end : goal.slice_bounds-whole-end
-slice_bounds-whole-end c = omega (arith, small c, long c)
+slice_bounds-whole-end c =
+    let image = c.args.image.now in
+    let bytes : Bytes c.args.image.now = all_bytes c.args.image.now (λ i. (c.type_inv.image i).fits) in
+    let small = room image c.feed.new.t c.feed.ensures bytes _ c.lay-n.result c.lay-n.new.out c.form_of.ensures c.lay-n.ensures.0 in
+    let long = still_long image c.feed.new.t c.feed.ensures bytes _ c.lay-n.result c.lay-n.new.out c.form_of.ensures c.lay-n.ensures.0 c.lay-n.ensures.1 in
+    omega (arith, small, long)
 
 pub slice_bounds-same_bytes-end : goal.slice_bounds-same_bytes-end
-slice_bounds-same_bytes-end c = simp length-take (omega (arith, small c, long c))
+slice_bounds-same_bytes-end c =
+    let image = c.args.image.now in
+    let bytes : Bytes c.args.image.now = all_bytes c.args.image.now (λ i. (c.type_inv.image i).fits) in
+    let small = room image c.feed.new.t c.feed.ensures bytes _ c.lay-n.result c.lay-n.new.out c.form_of.ensures c.lay-n.ensures.0 in
+    let long = still_long image c.feed.new.t c.feed.ensures bytes _ c.lay-n.result c.lay-n.new.out c.form_of.ensures c.lay-n.ensures.0 c.lay-n.ensures.1 in
+    simp length-take (omega (arith, small, long))
 
 pub returns : goal.returns
-returns c = c.same_bytes.ensures ∙ checked (image c) (table c) c.feed.ensures (bytes c) _ c.lay-n.result (page c) c.form_of.ensures c.lay-n.ensures.0 c.lay-n.ensures.1
+returns c =
+    let image = c.args.image.now in
+    let bytes : Bytes c.args.image.now = all_bytes c.args.image.now (λ i. (c.type_inv.image i).fits) in
+    c.same_bytes.ensures
+    ∙ checked image c.feed.new.t c.feed.ensures bytes _ c.lay-n.result c.lay-n.new.out c.form_of.ensures c.lay-n.ensures.0 c.lay-n.ensures.1
