@@ -121,6 +121,7 @@ from_list number_of number refuse same (t ∷ ts) rest = go t.applies (from_list
     later true b c e = refl
     later false true c e = refl
     later false false c e = e
+
     go : (b : Bool) → one_of (number (in_order refuse ts rest)) (number rest ∷ numbers_by number_of ts) ≡ true
         → one_of (number (cond b (refuse t.answer) (in_order refuse ts rest))) (number rest ∷ number_of t.answer ∷ numbers_by number_of ts) ≡ true
     go true ih = rw (same t.answer, eq-eqb (number_of t.answer) (number_of t.answer) refl) (or-true (eqb (number_of t.answer) (number rest)))

@@ -5,7 +5,6 @@ use mathlib.Core.Path.{subst, ◌≡◌, refl, sym, ap, ◌∙◌}
 use mathlib.Core.Bool.{Bool, true, false, ◌&&◌, ◌||◌, not, and-false, or-true}
 use mathlib.Core.List.{List, [], ◌∷◌}
 use lib.ListN.{length}
-use Rattle.words.specs.Runs as runs
 use Rattle.message.specs.declared.Key.{Key}
 use Rattle.maps.specs.Maps.{same_key}
 use Rattle.words.proofs.Tests.{test, never}
@@ -53,8 +52,8 @@ without-one k [] u e = never e refl
 without-one k (j ∷ ks) u e =
     test (same_key j k)
     (λ t.
-        let P : Key → Type 0 = λ x. suc (length (without x (j ∷ ks))) ≡ length (j ∷ ks) in
-        subst P (key_eq j k t) (rw (key-refl j) (ap suc (ap length (without_absent j ks u.0)))))
+    let P : Key → Type 0 = λ x. suc (length (without x (j ∷ ks))) ≡ length (j ∷ ks) in
+    subst P (key_eq j k t) (rw (key-refl j) (ap suc (ap length (without_absent j ks u.0)))))
     (λ f. rw (other_way j k f) (ap suc (without-one k ks u.1 (rw f at e))))
 
 -- two lists of the same keys, each once, are as long as each other: the number of keys held is one number, however they are listed

@@ -10,7 +10,7 @@ use lib.Dec.{eqb, leb, ltb}
 use lib.ListN.{length, get_or, drop}
 use lib.Seq.{ext_get_or}
 use Rattle.words.specs.Lists.{tabulate}
-use Rattle.words.proofs.Lists.{length-tabulate, get_tabulate, tabulate_equal, write_all}
+use Rattle.words.proofs.Lists.{length-tabulate, get_tabulate, tabulate_equal}
 use Rattle.words.proofs.Lowest.{neither, lowest_none, None}
 use Rattle.places.specs.Place.{end_to, bytes_for, size_of, unplaced_in}
 use Rattle.places.proofs.Placed.{Placed, none_unplaced}

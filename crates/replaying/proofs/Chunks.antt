@@ -1,6 +1,6 @@
 -- A tally and a chunk, by the laws of chunks (record, Sized.antt): either the chunk completes no record, or the first record is the carried bytes with the start of the chunk; and a trace may be
 -- cut into chunks anywhere. Assumes nothing.
-use Prim.Native.Nat.{ℕ, ◌+◌, ◌-◌, ◌%◌, ◌≤◌, ◌<◌}
+use Prim.Native.Nat.{ℕ, ◌-◌, ◌%◌, ◌≤◌, ◌<◌}
 use mathlib.Core.Path.{◌≡◌, refl, sym, ap, ap₂, subst, ◌∙◌}
 use mathlib.Core.List.{List, [], ◌∷◌, ◌++◌, append_assoc, append-nil, flatten}
 use native.Mathlib.Omega.{arith}

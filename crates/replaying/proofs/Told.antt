@@ -14,7 +14,6 @@ use Rattle.ports.specs.Filters.{fresh_words, commanded}
 use Rattle.bridge.specs.Bridge.{Bridge, fresh_bridge, offered}
 use Rattle.counters.specs.Count.{more}
 use Rattle.traffic.specs.Traffic.{wrapped}
-use Rattle.traffic.specs.Runs as runs
 use Rattle.traffic.specs.Runs.{run, filters_by}
 use Rattle.traffic.proofs.Theorem.{run-filters}
 use Rattle.trace.specs.declared.Entry.{Entry}

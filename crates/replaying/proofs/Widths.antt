@@ -1,5 +1,5 @@
 -- How long the lines are at most: 2,304 bytes always hold the text of a replay. On any words and any tally. Assumes nothing.
-use Prim.Native.Nat.{ℕ, ◌+◌, ◌≤◌, ◌<◌}
+use Prim.Native.Nat.{ℕ, ◌≤◌, ◌<◌}
 use native.Mathlib.Omega.{arith}
 use mathlib.Core.List.{◌++◌, flatten}
 use lib.Dec.{lit<}

@@ -1,6 +1,6 @@
 -- What happens at the ports of a bridge (02, Req 09), and what is counted of it: "each defined from the trace". A trace is a list of events, the latest first, and a queue is a plain
 -- list, the earliest first. Nothing here knows of words. Assumes nothing.
-use Rattle.std.specs.Prelude.{ℕ, ◌+◌, ◌%◌, ◌^◌, Bool, false, cond, List, [], ◌∷◌, ◌++◌, eqb, ltb, length}
+use Rattle.std.specs.Prelude.{ℕ, ◌%◌, ◌^◌, Bool, false, cond, List, [], ◌∷◌, ◌++◌, eqb, ltb, length}
 use Rattle.std.proofs.Math.Option.{Option, none, some}
 use Rattle.words.specs.Runs.{only, fold}
 use Rattle.frame.specs.Frame.{fields_of}

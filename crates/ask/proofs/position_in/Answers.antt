@@ -1,5 +1,4 @@
 -- `position_in`: no position passed has the SPN, so the one that stops the search is the lowest. Assumes nothing.
-use Prim.Native.Nat.{◌-◌}
 use mathlib.Core.Path.{refl, sym}
 use mathlib.Core.Bool.{true}
 use borrow.Author.Count.{below_none, below_more}

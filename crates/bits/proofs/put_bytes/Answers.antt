@@ -1,6 +1,5 @@
 -- `put_bytes`: after i turns the first i bytes have taken their bits. Assumes nothing.
 use mathlib.Core.Path.{◌≡◌, refl, sym}
-use Prim.Native.Nat.{◌-◌}
 use native.Mathlib.Nat.{div-one}
 use native.Mathlib.Omega.{arith}
 use borrow.Author.Rules.{rules}

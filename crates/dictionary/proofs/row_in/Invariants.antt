@@ -1,4 +1,4 @@
-use Prim.Native.Nat.{suc, ◌-◌, ◌≤◌, ◌<◌}
+use Prim.Native.Nat.{suc, ◌≤◌, ◌<◌}
 use lib.ListN.{length}
 use Rattle.words.specs.Halve.{turns}
 use Rattle.words.proofs.Halve.{Leads}

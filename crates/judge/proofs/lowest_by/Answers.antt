@@ -1,5 +1,4 @@
 -- `lowest_by`: the rule applies to no position passed, so the position that stops the search is the lowest. Assumes nothing.
-use Prim.Native.Nat.{◌-◌}
 use borrow.Author.Count.{below_none}
 use Rattle.words.proofs.Lowest.{hit, turn, miss}
 use Rattle.judge.proofs.lowest_by.Goals as goal

@@ -1,5 +1,5 @@
 -- `lowest_missing`: nothing is missing at a position passed, so the position that stops the search is the lowest. Assumes nothing.
-use Prim.Native.Nat.{ℕ, ◌-◌}
+use Prim.Native.Nat.{ℕ}
 use mathlib.Core.Path.{ap, ◌∙◌}
 use borrow.Author.Count.{below_none}
 use Rattle.words.specs.First.{lowest}

@@ -1,6 +1,5 @@
 -- `shares_earlier`: none of those passed shares a bit with it, so one that does decides. Assumes nothing.
 use mathlib.Core.Path.{sym, ◌∙◌}
-use Prim.Native.Nat.{◌-◌}
 use native.Mathlib.Omega.{arith}
 use borrow.Author.Count.{below_none}
 use Rattle.words.proofs.Lowest.{any_at, any_none, turn}

@@ -1,7 +1,7 @@
 -- `walk`: no rule applies to a position passed, so the one that stops the walk is the lowest; the ends and the marks are those of the positions passed.
 -- Assumes nothing.
 use mathlib.Core.Path.{refl, sym, ap, ap₂, ◌∙◌}
-use Prim.Native.Nat.{ℕ, ◌-◌, ◌%◌, max}
+use Prim.Native.Nat.{ℕ, ◌%◌, max}
 use native.Mathlib.Omega.{arith}
 use lib.ListN.{length-set}
 use borrow.Author.Count.{below_none}

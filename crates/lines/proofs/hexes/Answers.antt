@@ -1,5 +1,4 @@
 -- The loop ends: it goes once over the list. Assumes nothing.
-use Prim.Native.Nat.{◌-◌}
 use Rattle.lines.proofs.hexes.Goals as goal
 
 pub hex-requires : goal.hex-requires

@@ -1,6 +1,5 @@
 -- The loop ends, and goes as far as the count and the list let it. Assumes nothing.
 use mathlib.Core.Path.{refl}
-use Prim.Native.Nat.{◌-◌}
 use native.Mathlib.Nat.{le-min, min-le_left, min-le_right}
 use native.Mathlib.Omega.{arith}
 use borrow.Author.Rules.{rules}

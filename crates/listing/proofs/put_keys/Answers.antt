@@ -24,8 +24,7 @@ returns-in-NoMore c =
 
 pub loop-i-preserved : goal.loop-i-preserved
 loop-i-preserved c =
-    let t = c.args.t.now in
-    (
+    let t = c.args.t.now in (
       omega arith,
       search rules,
       turn t (16 - (c.loop-i.i + 1)) (16 - c.loop-i.i) c.in-Found.key (key_found c.loop-i.next) _ (page c.loop-i.place c.loop-i.out) _ (omega arith) (ap key_found c.in-Found.is) c.next_key-next.ensures

@@ -1,9 +1,7 @@
 -- `load::check` meets its contract: the page holds the image of what the bytes stand for. Assumes nothing.
-use Prim.Native.Nat.{ℕ, ◌≤◌}
-use mathlib.Core.Path.{◌≡◌, ◌∙◌}
-use mathlib.Core.List.{List}
+use mathlib.Core.Path.{◌∙◌}
 use native.Mathlib.Omega.{arith}
-use lib.ListN.{length, length-take}
+use lib.ListN.{length-take}
 use Rattle.record.specs.Record.{Bytes}
 use Rattle.load.proofs.Loaded.{all_bytes, room, still_long, checked}
 use Rattle.load.proofs.check.Goals as goal

@@ -32,8 +32,7 @@ pub loop-i-preserved : goal.loop-i-preserved
 loop-i-preserved c =
     let a = c.args in
     let m = 16 - (c.loop-i.i + 1) in
-    let n = 16 - c.loop-i.i in
-    (
+    let n = 16 - c.loop-i.i in (
       omega arith,
       simp length-set c.loop-i.invariant.1,
       omega (arith, c.loop-i.invariant.2, c.one_for-count.ensures.1),

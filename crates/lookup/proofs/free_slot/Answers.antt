@@ -1,5 +1,4 @@
 -- `free_slot`: no row below i is free. Assumes nothing.
-use Prim.Native.Nat.{◌-◌}
 use borrow.Author.Rules.{rules}
 use borrow.Author.Count.{below_none}
 use lib.Dec.{lit<}

@@ -1,6 +1,5 @@
 -- `pack_into`: every bit is 1, and after i turns the numbers of the first i parameters are laid. Assumes nothing.
 use mathlib.Core.Path.{◌≡◌, refl, ap, ◌∙◌}
-use Prim.Native.Nat.{◌-◌}
 use native.Mathlib.Omega.{arith}
 use lib.ListN.{length}
 use borrow.Author.Rules.{rules}
@@ -15,13 +14,12 @@ unfolding bit_after_all
 loop-i-init c = (search rules, placed_widths c.args.starts.now c.args.widths.now c.requires.0, refl, c.fill.ensures ∙ ap (bytes_with (λ p. 1)) c.requires.2)
 
 pub loop-i-preserved : goal.loop-i-preserved
-loop-i-preserved c =
-    (
-      search rules,
-      search rules,
-      search rules,
-      pack_turn c.args.starts.now c.args.widths.now c.requires.0 c.loop-i.i (omega arith) c.args.numbers.now _ _ c.loop-i.invariant.3 c.put.ensures,
-    )
+loop-i-preserved c = (
+  search rules,
+  search rules,
+  search rules,
+  pack_turn c.args.starts.now c.args.widths.now c.requires.0 c.loop-i.i (omega arith) c.args.numbers.now _ _ c.loop-i.invariant.3 c.put.ensures,
+)
 
 pub returns : goal.returns
 unfolding packed

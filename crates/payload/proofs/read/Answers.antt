@@ -38,11 +38,12 @@ pub shape_of-room : goal.shape_of-room
 shape_of-room c =
     let a = c.args in
     let same : c.if-payload-may_be_short.room ≡ a.room.now =
-      elim c.if-payload-may_be_short.branch [
-        then-payload-may_be_short+else-numbers_in w ↦
-            w.room-is ∙ w.numbers_in.ensures.1
-            ∙ sym (not_taken w.word_of-word.result a.starts.now a.widths.now a.room.now (sym w.numbers_in.ensures.0 ∙ w.if-numbers_in.false))
-      | else-payload-may_be_short w ↦ w.room-is ]
+    elim c.if-payload-may_be_short.branch [
+      | then-payload-may_be_short+else-numbers_in w ↦
+          w.room-is ∙ w.numbers_in.ensures.1
+          ∙ sym (not_taken w.word_of-word.result a.starts.now a.widths.now a.room.now (sym w.numbers_in.ensures.0 ∙ w.if-numbers_in.false))
+      | else-payload-may_be_short w ↦ w.room-is
+    ]
     in
     rw (← same) (search rules)
 
@@ -50,10 +51,11 @@ pub returns : goal.returns
 returns c =
     let a = c.args in
     let same : c.if-payload-may_be_short.room ≡ a.room.now =
-      elim c.if-payload-may_be_short.branch [
-        then-payload-may_be_short+else-numbers_in w ↦
-            w.room-is ∙ w.numbers_in.ensures.1
-            ∙ sym (not_taken w.word_of-word.result a.starts.now a.widths.now a.room.now (sym w.numbers_in.ensures.0 ∙ w.if-numbers_in.false))
-      | else-payload-may_be_short w ↦ w.room-is ]
+    elim c.if-payload-may_be_short.branch [
+      | then-payload-may_be_short+else-numbers_in w ↦
+          w.room-is ∙ w.numbers_in.ensures.1
+          ∙ sym (not_taken w.word_of-word.result a.starts.now a.widths.now a.room.now (sym w.numbers_in.ensures.0 ∙ w.if-numbers_in.false))
+      | else-payload-may_be_short w ↦ w.room-is
+    ]
     in
     c.read_any.ensures ∙ ap (reading a.starts.now a.widths.now a.payload.now) same

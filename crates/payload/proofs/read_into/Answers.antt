@@ -1,6 +1,5 @@
 -- `read_into`: after i turns the numbers of the first i parameters are read. Assumes nothing.
 use mathlib.Core.Path.{◌≡◌, refl, ◌∙◌}
-use Prim.Native.Nat.{◌-◌}
 use native.Mathlib.Omega.{arith}
 use lib.ListN.{length, length-set}
 use borrow.Author.Rules.{rules}
@@ -15,14 +14,13 @@ unfolding tabulate
 loop-i-init c = (search rules, placed_widths c.args.starts.now c.args.widths.now c.requires.0, refl, refl)
 
 pub loop-i-preserved : goal.loop-i-preserved
-loop-i-preserved c =
-    (
-      search rules,
-      search rules,
-      simp length-set (search rules),
-      rw (c.loop-i.invariant.3, read_turn c.args.starts.now c.args.widths.now c.requires.0 c.loop-i.i (omega arith) c.args.payload.now c.get.result c.requires.2 c.get.ensures)
-          (write_more (read_at c.args.starts.now c.args.widths.now c.args.payload.now) c.loop-i.i c.args.room.now (omega arith)),
-    )
+loop-i-preserved c = (
+  search rules,
+  search rules,
+  simp length-set (search rules),
+  rw (c.loop-i.invariant.3, read_turn c.args.starts.now c.args.widths.now c.requires.0 c.loop-i.i (omega arith) c.args.payload.now c.get.result c.requires.2 c.get.ensures)
+      (write_more (read_at c.args.starts.now c.args.widths.now c.args.payload.now) c.loop-i.i c.args.room.now (omega arith)),
+)
 
 pub returns : goal.returns
 returns c =

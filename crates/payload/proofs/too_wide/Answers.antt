@@ -1,6 +1,5 @@
 -- `too_wide`: no number passed needs more than its width, so the one that stops the search is the lowest. Assumes nothing.
 use mathlib.Core.Path.{◌≡◌}
-use Prim.Native.Nat.{◌-◌}
 use native.Mathlib.Omega.{arith}
 use borrow.Author.Count.{below_none}
 use borrow.Author.Rules.{rules}

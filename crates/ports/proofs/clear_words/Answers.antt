@@ -1,7 +1,6 @@
 -- `ports::clear_words` meets its contract: the words passed are 0, and the rest are as they were.
 -- Assumes nothing.
 use mathlib.Core.Path.{◌∙◌}
-use Prim.Native.Nat.{◌-◌}
 use native.Mathlib.Omega.{arith}
 use Rattle.words.proofs.Lists.{spread_none, spread_more, spread_all}
 use Rattle.ports.proofs.Calls.{all_fresh}

@@ -1,7 +1,7 @@
 -- `queue::count_from` meets its contract: those counted and those of the rest make the number. Assumes nothing.
 use mathlib.Core.Path.{ap, ◌∙◌}
 use mathlib.Core.Bool.{cond}
-use Prim.Native.Nat.{ℕ, ◌-◌, ◌≤◌}
+use Prim.Native.Nat.{ℕ, ◌≤◌}
 use native.Mathlib.Nat.{zero-add}
 use native.Mathlib.Omega.{arith}
 use lib.Dec.{eqb}
@@ -27,8 +27,7 @@ loop-k-smaller c = omega arith
 
 pub loop-k-preserved : goal.loop-k-preserved
 loop-k-preserved c =
-    let few : c.pick-count.result ≤ 1 = at_most_one c.from_in.result c.args.from _ c.pick-count.ensures in
-    (
+    let few : c.pick-count.result ≤ 1 = at_most_one c.from_in.result c.args.from _ c.pick-count.ensures in (
       omega arith,
       omega (arith, few),
       count_turn c.args.row.now c.requires c.args.from c.loop-k.count _ c.loop-k.k _ (omega (arith, c.count_of-n.ensures.0))

@@ -1,5 +1,4 @@
 -- `queue::place_of` meets its contract: what is found so far and what the rest has make the place. Assumes nothing.
-use Prim.Native.Nat.{◌-◌}
 use native.Mathlib.Omega.{arith}
 use Rattle.queue.specs.Row.{priority_in}
 use Rattle.queue.proofs.Scan.{from_front}
@@ -19,12 +18,11 @@ pub loop-k-smaller : goal.loop-k-smaller
 loop-k-smaller c = omega arith
 
 pub loop-k-preserved : goal.loop-k-preserved
-loop-k-preserved c =
-    (
-      omega arith,
-      low_most _ _ _ (omega (arith, c.priority_in-p.ensures.1)) c.loop-k.invariant.1 c.pick-low.ensures,
-      scan_turn c.args.row.now c.requires _ _ c.loop-k.k _ _ _ _ (omega (arith, c.count_of-n.ensures.0)) c.priority_in-p.ensures.0 c.pick-best.ensures c.pick-low.ensures c.loop-k.invariant.2,
-    )
+loop-k-preserved c = (
+  omega arith,
+  low_most _ _ _ (omega (arith, c.priority_in-p.ensures.1)) c.loop-k.invariant.1 c.pick-low.ensures,
+  scan_turn c.args.row.now c.requires _ _ c.loop-k.k _ _ _ _ (omega (arith, c.count_of-n.ensures.0)) c.priority_in-p.ensures.0 c.pick-best.ensures c.pick-low.ensures c.loop-k.invariant.2,
+)
 
 pub returns : goal.returns
 returns c = scan_end c.args.row.now c.requires _ _ c.loop-k.k _ c.loop-k.invariant.1 (omega (arith, c.count_of-n.ensures.0)) c.loop-k.invariant.2

@@ -1,5 +1,4 @@
 -- The loop's invariant: the records that are left make of what there is what all the records make of the start. Assumes nothing.
-use Prim.Native.Nat.{◌-◌}
 use mathlib.Core.Path.{refl, sym, ap, ◌∙◌}
 use native.Mathlib.Omega.{arith}
 use lib.ListN.{drop, length-drop}

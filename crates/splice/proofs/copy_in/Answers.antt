@@ -1,6 +1,5 @@
 -- `splice::copy_in` meets its contract: the loop has copied i elements; it ends where either list does. Assumes nothing.
 use mathlib.Core.Path.{◌∙◌}
-use Prim.Native.Nat.{◌-◌}
 use native.Mathlib.Omega.{arith}
 use lib.ListN.{length-set}
 use Rattle.splice.proofs.Laws.{copy_more, copied}

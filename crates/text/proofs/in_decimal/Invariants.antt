@@ -1,5 +1,4 @@
 use Rattle.text.proofs.Decimal.{Writing}
-use Prim.Native.Nat.{◌-◌}
 use Rattle.text.proofs.in_decimal.Given as goal
 
 abbrev pub invariant-loop-rest : goal.invariant-loop-rest

@@ -1,5 +1,4 @@
 -- `transport::row_with` meets its contract: no row below i has the holder. Assumes nothing.
-use Prim.Native.Nat.{◌-◌}
 use borrow.Author.Rules.{rules}
 use borrow.Author.Count.{below_none}
 use lib.Dec.{lit<}

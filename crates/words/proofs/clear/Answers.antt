@@ -1,5 +1,4 @@
 -- `clear`: the words passed are 0, and the others as they were. Assumes nothing.
-use Prim.Native.Nat.{◌-◌}
 use native.Mathlib.Omega.{arith}
 use Rattle.words.proofs.Lists.{spread_none, spread_more, spread_all}
 use Rattle.words.proofs.clear.Goals as goal
