@@ -116,6 +116,7 @@ fn judge_row(row: &[u64], spns: &mut [u32], starts: &mut [u32], widths: &mut [u3
 }
 
 // The judgement of a row's map: in conflict, whatever the cells say, or that of what it holds.
+#[tactic(auto, using(std::proofs::lemmas::Bool::Decides::nat_tests))]
 fn judgement_of(state: u64, was: Judgement) -> Judgement
     ensures { said_of result ≡ cond (eqb state 1) (said_of was) (at 1 0) }
 {
