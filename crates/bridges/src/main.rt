@@ -13,8 +13,7 @@
 
 use answers::Answer;
 use bridge::{COUNTERS, CounterWords, Offered, QUEUES, QueueWords};
-use libc::STDOUT_FILENO;
-use lines::{end, first, four, longs, more, two};
+use lines::{STDOUT_FILENO, end, first, four, longs, more, two};
 use ports::{Filters, WORDS};
 
 // What one of the three ports answered.
@@ -136,15 +135,16 @@ fn run(c: &mut CounterWords, q: &mut QueueWords, w: &mut Filters, b: &[u8; 16]) 
     }
 }
 
-// What the calls are lent stands here. A proved loop has to end, so it counts its turns down, from a number that no run uses up.
+// What the calls are lent stands here. A proved loop has to end, so it counts its turns, up to a number that no run uses up.
 fn main() {
     let mut c = [0u64; COUNTERS];
     let mut q = [0u64; QUEUES];
     let mut w = [0u32; WORDS];
     let mut b = [0u8; 16];
-    let mut turns = u64::MAX;
-    while turns > 0 && lines::case(&mut b) {
+    for _ in 0..u64::MAX {
+        if !lines::case(&mut b) {
+            break;
+        }
         run(&mut c, &mut q, &mut w, &b);
-        turns -= 1;
     }
 }

@@ -8,9 +8,10 @@ ghost use Rattle.feeding.specs.Feed.{started};
 ghost use Rattle.hired.specs.Bytes.{SomeHire};
 
 use feeding::Tally;
-use libc::STDERR_FILENO;
 use lookup::{Table, WORDS};
 use reading::Taken;
+use std::process::ExitCode;
+use std::rt::Clock;
 use tally::Cells;
 
 // "more than 2^31 payloads of one key"
@@ -22,30 +23,29 @@ const SHOWN: u64 = 16;
 // ---- how far it is
 
 // Counts the records on a line that is written over itself, from time to time.
-fn show(shown: bool, turns: u64, tally: Tally) {
+fn show<R: Eprint>(rt: &R, shown: bool, turns: u64, tally: Tally) {
     if shown && turns % SHOWN == 0 {
-        let counts = tally.counts;
-        io::write_all(STDERR_FILENO, b"\rhire: ");
-        io::print_decimal(STDERR_FILENO, counts.records);
-        io::write_all(STDERR_FILENO, b" records");
+        let records = tally.counts.records;
+        let _ = eprint!(rt; "\rhire: {records} records");
     }
 }
 
 // Ends that line, where there was one.
-fn show_end(shown: bool, turns: u64) {
+fn show_end<R: Eprint>(rt: &R, shown: bool, turns: u64) {
     if shown && SHOWN <= turns {
-        io::write_all(STDERR_FILENO, b"\n");
+        let _ = eprintln!(rt; "");
     }
 }
 
 // ---- reading
 
 // Feeds the next 64 KB.
-fn feed_on(t: &mut Table, acc: &mut Cells, tally: Tally) -> Taken
+fn feed_on<R: Input + Clock + Eprint>(rt: &R, t: &mut Table, acc: &mut Cells, tally: Tally) -> Taken
     ensures { SomeHire (2 ^ 31) t.old acc.old tally t.new acc.new result.tally }
 {
     let mut buffer = io::large_buffer();
     let chunk = reading::fill(
+        rt,
         &mut buffer,
         b"hire: reading stopped, and only what came before is reported",
     );
@@ -59,7 +59,7 @@ fn feed_on(t: &mut Table, acc: &mut Cells, tally: Tally) -> Taken
 }
 
 // Reads the log to its end. A proved loop has to end, so it counts its turns, up to a number that no log reaches.
-fn read_log(t: &mut Table, acc: &mut Cells, shown: bool) -> Taken
+fn read_log<R: Input + Clock + Eprint>(rt: &R, t: &mut Table, acc: &mut Cells, shown: bool) -> Taken
     ensures { SomeHire (2 ^ 31) t.old acc.old started t.new acc.new result.tally }
 {
     let tally = feeding::start();
@@ -71,31 +71,28 @@ fn read_log(t: &mut Table, acc: &mut Cells, shown: bool) -> Taken
     let mut turns = 0;
     while turns < u64::MAX && taken.more {
         let tally = taken.tally;
-        taken = feed_on(t, acc, tally);
+        taken = feed_on(rt, t, acc, tally);
         turns += 1;
         let tally = taken.tally;
-        show(shown, turns, tally);
+        show(rt, shown, turns, tally);
     }
-    show_end(shown, turns);
+    show_end(rt, shown, turns);
     taken
 }
 
-// Whether the whole report was written.
-fn print(t: &Table, acc: &Cells, tally: Tally) -> bool {
-    if reporting::write_all(t, acc, LIMIT, tally) {
-        return true;
-    }
-    os::fail(b"hire: the report could not be written");
-    false
-}
-
-fn main() {
+fn main(rt: HostRuntime) -> ExitCode {
     let mut t = [0u64; WORDS];
     let mut acc = [0u64; tally::WORDS];
     table::empty(&mut t);
     hire::fresh(&mut acc);
-    let log = read_log(&mut t, &mut acc, 2 < os::arg_count());
+    let shown = reading::has_argument(&rt, 2);
+    let log = read_log(&rt, &mut t, &mut acc, shown);
     let tally = log.tally;
-    let written = print(&t, &acc, tally);
-    reading::done(log.whole & written);
+    let written = reporting::write_all(&rt, &t, &acc, LIMIT, tally);
+    reading::ended(
+        &rt,
+        log.whole,
+        written,
+        b"hire: the report could not be written",
+    )
 }

@@ -10,8 +10,7 @@
 #![tactic(auto)]
 
 use feeding::Tally;
-use libc::{STDIN_FILENO, STDOUT_FILENO};
-use lines::{end, first, four, front, longs, more, two};
+use lines::{STDIN_FILENO, STDOUT_FILENO, end, first, four, front, longs, more, two};
 use lookup::{Table, WORDS};
 use tally::Cells;
 
@@ -90,7 +89,7 @@ fn cells(acc: &Cells, row: u8) {
     end();
 }
 
-fn run(t: &mut Table, acc: &mut Cells, h: Hire, b: &[u8; 16]) -> Hire {
+fn run<P: Print>(out: &P, t: &mut Table, acc: &mut Cells, h: Hire, b: &[u8; 16]) -> Hire {
     let limit = h.limit;
     let tally = h.tally;
     match b[0] {
@@ -98,7 +97,7 @@ fn run(t: &mut Table, acc: &mut Cells, h: Hire, b: &[u8; 16]) -> Hire {
         1 => return feed(t, acc, limit, tally, two(b[1], b[2])),
         2 => line(t, acc, limit, b),
         3 => {
-            reporting::write_all(t, acc, limit, tally);
+            let _ = reporting::write_all(out, t, acc, limit, tally);
         }
         4 => put_cell(acc, two(b[1], b[2]), word(b)),
         5 => put_word(t, two(b[1], b[2]), word(b)),
@@ -107,15 +106,16 @@ fn run(t: &mut Table, acc: &mut Cells, h: Hire, b: &[u8; 16]) -> Hire {
     Hire { limit, tally }
 }
 
-// What the calls are lent stands here. A proved loop has to end, so it counts its turns down, from a number that no run uses up.
-fn main() {
+// What the calls are lent stands here. A proved loop has to end, so it counts its turns, up to a number that no run uses up.
+fn main(rt: HostRuntime) {
     let mut t = [0u64; WORDS];
     let mut acc = [0u64; tally::WORDS];
     let mut h = start(&mut t, &mut acc, 0);
     let mut b = [0u8; 16];
-    let mut turns = u64::MAX;
-    while turns > 0 && lines::case(&mut b) {
-        h = run(&mut t, &mut acc, h, &b);
-        turns -= 1;
+    for _ in 0..u64::MAX {
+        if !lines::case(&mut b) {
+            break;
+        }
+        h = run(&rt, &mut t, &mut acc, h, &b);
     }
 }

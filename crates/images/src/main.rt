@@ -11,8 +11,7 @@
 //   7 key, edition                   gives the key that edition; no line
 #![tactic(auto)]
 
-use libc::STDIN_FILENO;
-use lines::{bytes, end, first, four, front, long, more, two};
+use lines::{STDIN_FILENO, bytes, end, first, four, front, long, more, two};
 use lookup::{Next, Table, WORDS};
 use message::Key;
 
@@ -54,10 +53,8 @@ fn loaded(t: &mut Table, image: &[u8]) {
     let a = load::load(t, image);
     first(a.number);
     let mut at = lookup::first_key(t);
-    let mut turns = 0u32;
-    while turns < 16 {
+    for _ in 0..16 {
         at = after(t, at);
-        turns += 1;
     }
     end();
 }
@@ -132,14 +129,15 @@ fn run(t: &mut Table, b: &[u8; 16]) {
     }
 }
 
-// A proved loop has to end, so it counts its turns down, from a number that no run uses up.
+// A proved loop has to end, so it counts its turns, up to a number that no run uses up.
 fn main() {
     let mut t = [0u64; WORDS];
     table::empty(&mut t);
     let mut b = [0u8; 16];
-    let mut turns = u64::MAX;
-    while turns > 0 && lines::case(&mut b) {
+    for _ in 0..u64::MAX {
+        if !lines::case(&mut b) {
+            break;
+        }
         run(&mut t, &b);
-        turns -= 1;
     }
 }

@@ -4,8 +4,9 @@
 
 ghost use Rattle.std.specs.Prelude.{◌≤◌};
 
-use libc::STDOUT_FILENO;
 use lookup::{Table, WORDS};
+use std::io::Result;
+use std::process::ExitCode;
 
 // As many bytes as the buffer has, at most.
 fn within(n: usize) -> usize
@@ -14,23 +15,21 @@ fn within(n: usize) -> usize
     if n < save::MOST { n } else { save::MOST }
 }
 
-// Whether the whole image was written. No table that a log teaches has a longer one than the buffer.
-fn print(t: &Table) -> bool {
+// An error says why not the whole image was written. No table that a log teaches has a longer one than the buffer.
+fn print<R: Print>(rt: &R, t: &Table) -> Result<()> {
     let mut image = [0u8; save::MOST];
     save::save(t, &mut image);
     let n = within(save::size(t));
-    if io::write_all(STDOUT_FILENO, &image[..n]) {
-        return true;
-    }
-    os::fail(b"save: the image could not be written");
-    false
+    rt.write_all(&image[..n])
 }
 
-fn main() {
+fn main(rt: HostRuntime) -> ExitCode {
     let mut t = [0u64; WORDS];
     table::empty(&mut t);
-    let log = reading::log(&mut t, b"save: reading stopped, and nothing is saved");
-    if log.whole {
-        reading::done(print(&t));
+    let log = reading::log(&rt, &mut t, b"save: reading stopped, and nothing is saved");
+    if !log.whole {
+        return reading::done(false);
     }
+    let written = print(&rt, &t);
+    reading::ended(&rt, true, written, b"save: the image could not be written")
 }

@@ -5,7 +5,12 @@
 ghost use Rattle.std.specs.Prelude.{◌≡◌, ◌+◌, ◌*◌, min, length, replicate};
 ghost use Rattle.io.specs.Counts.{IsPrefixLen};
 
-use libc::{STDIN_FILENO, STDOUT_FILENO};
+use std::io::{Print, Result};
+
+// The descriptors of standard input and standard output.
+pub const STDIN_FILENO: i32 = 0;
+
+pub const STDOUT_FILENO: i32 = 1;
 
 // The first number of a line.
 pub fn first(n: u8) {
@@ -25,19 +30,15 @@ pub fn more(n: u32) {
 
 // Further numbers of a line.
 pub fn numbers(list: &[u32]) {
-    let mut i = 0;
-    while i < list.len() {
-        more(list[i]);
-        i += 1;
+    for n in list {
+        more(*n);
     }
 }
 
 // The same of 64 bits.
 pub fn longs(list: &[u64]) {
-    let mut i = 0;
-    while i < list.len() {
-        long(list[i]);
-        i += 1;
+    for n in list {
+        long(*n);
     }
 }
 
@@ -46,10 +47,8 @@ fn hex(b: u8) {
 }
 
 fn hexes(list: &[u8]) {
-    let mut i = 0;
-    while i < list.len() {
-        hex(list[i]);
-        i += 1;
+    for b in list {
+        hex(*b);
     }
 }
 
@@ -125,21 +124,19 @@ pub fn words(n: u8, list: &mut [u32]) -> usize
 // Lays numbers into a page, each with a blank before it.
 fn lay_numbers(page: &mut [u8], from: usize, numbers: &[u64]) -> usize {
     let mut at = from;
-    let mut i = 0;
-    while i < numbers.len() {
+    for n in numbers {
         at = text::put_bytes(page, at, b" ");
-        at = text::put_decimal(page, at, numbers[i]);
-        i += 1;
+        at = text::put_decimal(page, at, *n);
     }
     at
 }
 
-// Writes a line of a word and numbers, for another program to read, and says whether all of it was written. It has room for eleven numbers of any size behind a short word.
-pub fn line(word: &[u8], numbers: &[u64]) -> bool {
+// Writes a line of a word and numbers, for another program to read; an error says why not all of it was written. It has room for eleven numbers of any size behind a short word.
+pub fn line<P: Print>(out: &P, word: &[u8], numbers: &[u64]) -> Result<()> {
     let mut page = [0u8; 256];
     let at = text::put_bytes(&mut page, 0, word);
     let at = lay_numbers(&mut page, at, numbers);
     let at = text::put_bytes(&mut page, at, b"\n");
     let n = front(at, &page);
-    io::write_all(STDOUT_FILENO, &page[..n])
+    out.write_all(&page[..n])
 }

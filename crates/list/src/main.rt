@@ -3,29 +3,32 @@
 #![tactic(auto)]
 
 use feeding::Tally;
-use libc::STDOUT_FILENO;
 use lookup::{Table, WORDS};
+use std::io::Result;
+use std::process::ExitCode;
 
-// Whether the whole listing was written.
-fn print(t: &Table, tally: Tally) -> bool {
+// An error says why not the whole listing was written.
+fn print<R: Print>(rt: &R, t: &Table, tally: Tally) -> Result<()> {
     let mut page = [0u8; listing::PAGE];
     let a = listing::finish(t, tally, &mut page);
     let n = io::count(a.detail as isize, &page);
-    if io::write_all(STDOUT_FILENO, &page[..n]) {
-        return true;
-    }
-    os::fail(b"list: the listing could not be written");
-    false
+    rt.write_all(&page[..n])
 }
 
-fn main() {
+fn main(rt: HostRuntime) -> ExitCode {
     let mut t = [0u64; WORDS];
     table::empty(&mut t);
     let log = reading::log(
+        &rt,
         &mut t,
         b"list: reading stopped, and only what came before is listed",
     );
     let tally = log.tally;
-    let written = print(&t, tally);
-    reading::done(log.whole & written);
+    let written = print(&rt, &t, tally);
+    reading::ended(
+        &rt,
+        log.whole,
+        written,
+        b"list: the listing could not be written",
+    )
 }

@@ -8,8 +8,7 @@
 //   4 key, edition                   gives the key that edition; no line
 #![tactic(auto)]
 
-use libc::STDIN_FILENO;
-use lines::{bytes, end, first, four, front, more, two};
+use lines::{STDIN_FILENO, bytes, end, first, four, front, more, two};
 use lookup::{Table, WORDS};
 
 // The eight data bytes of a case.
@@ -66,13 +65,14 @@ fn run(t: &mut Table, b: &[u8; 32]) {
     }
 }
 
-// What the calls are lent stands here. A proved loop has to end, so it counts its turns down, from a number that no run uses up.
+// What the calls are lent stands here. A proved loop has to end, so it counts its turns, up to a number that no run uses up.
 fn main() {
     let mut t = [0u64; WORDS];
     let mut b = [0u8; 32];
-    let mut turns = u64::MAX;
-    while turns > 0 && lines::case(&mut b) {
+    for _ in 0..u64::MAX {
+        if !lines::case(&mut b) {
+            break;
+        }
         run(&mut t, &b);
-        turns -= 1;
     }
 }

@@ -2,8 +2,7 @@
 // a number, four bytes each, the least significant first; its line is the SPN's width, resolution, offset and kind, and the number's state and its value in thousandths.
 #![tactic(auto)]
 
-use libc::STDOUT_FILENO;
-use lines::{end, four, more};
+use lines::{STDOUT_FILENO, end, four, more};
 
 // A further number of a line, with its sign. One comes off before the cast, since the least number has no opposite.
 fn signed(n: i64) {
@@ -31,12 +30,13 @@ fn run(b: &[u8; 8]) {
     line(four(b[0], b[1], b[2], b[3]), four(b[4], b[5], b[6], b[7]));
 }
 
-// A proved loop has to end, so it counts its turns down, from a number that no run uses up.
+// A proved loop has to end, so it counts its turns, up to a number that no run uses up.
 fn main() {
     let mut b = [0u8; 8];
-    let mut turns = u64::MAX;
-    while turns > 0 && lines::case(&mut b) {
+    for _ in 0..u64::MAX {
+        if !lines::case(&mut b) {
+            break;
+        }
         run(&b);
-        turns -= 1;
     }
 }

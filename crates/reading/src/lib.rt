@@ -1,5 +1,5 @@
-// What the programs that a person starts read with: standard input into a buffer, or to its end as a log that a table learns from; and the word that all is done.
-// No promise can say which bytes came.
+// What the programs that a person starts read with: standard input into a buffer, or to its end as a log that a table learns from; what they say where they could not read or write; and
+// the status that they end with. No promise can say which bytes came.
 #![tactic(auto)]
 
 ghost use Rattle.io.specs.Counts.{IsPrefixLen};
@@ -7,41 +7,62 @@ ghost use Rattle.feeding.specs.Feed.{started};
 ghost use Rattle.reading.specs.Bytes.{SomeBytes};
 
 use feeding::Tally;
-use libc::STDIN_FILENO;
-use libc::types::timespec;
 use lookup::Table;
+use std::env::FillError;
+use std::io::{Error, ErrorKind, Read, Result, Write};
+use std::process::ExitCode;
+use std::rt::{Clock, Env};
+use std::time::Duration;
+use std::{str, thread};
 
-// A Rattle program has no exit status. Where a script starts it, with a word as its argument, it writes `done` on this descriptor once everything was read and everything
-// written; the script makes an exit status of that (tools/program.sh).
-const DONE_FILENO: i32 = 3;
+// ---- what went wrong
+
+// Room for what the system says of an error.
+const WORDS: usize = 256;
+
+// What std says of an error of the system ends with its number, as in `Is a directory (os error 21)`; a person is told the words alone.
+fn words_alone(all: &str) -> &str {
+    match all.split_once(" (os error ") {
+        Some((words, _)) => words,
+        None => all,
+    }
+}
+
+// A line on standard error says `what`, and why. Where that cannot be written either, nothing is left to say it with.
+pub fn tell<R: Eprint>(rt: &R, what: &[u8], why: Error) {
+    let mut room = [0u8; WORDS];
+    let left = {
+        let mut free = &mut room[..];
+        let _ = write!(free, "{why}");
+        free.len()
+    };
+    let n = WORDS.saturating_sub(left);
+    let why = words_alone(str::from_utf8(&room[..n]).unwrap_or(""));
+    let _ = match str::from_utf8(what) {
+        Ok(what) => eprintln!(rt; "{what}: {why}"),
+        Err(_) => eprintln!(rt; "{what:?}: {why}"),
+    };
+}
 
 // ---- a read that failed
 
 // Waits for ten milliseconds.
-fn nap() {
-    let asked = timespec {
-        tv_sec: 0,
-        tv_nsec: 10_000_000,
-    };
-    let mut left = timespec {
-        tv_sec: 0,
-        tv_nsec: 0,
-    };
-    libc::nanosleep(&asked, &mut left);
+fn nap<R: Clock>(rt: &R) {
+    thread::sleep(rt, Duration::from_millis(10));
 }
 
 // Whether to read again, just after a read that failed; where not, a line on standard error says `what` and why. Standard input that another process has made
-// non-blocking says EAGAIN while it has nothing yet.
-fn again(what: &[u8]) -> bool {
-    let why = os::errno();
-    if why == libc::EAGAIN {
-        nap();
+// non-blocking says WouldBlock while it has nothing yet.
+fn again<R: Clock + Eprint>(rt: &R, what: &[u8], why: Error) -> bool {
+    let kind = why.kind();
+    if kind == ErrorKind::WouldBlock {
+        nap(rt);
         return true;
     }
-    if why == libc::EINTR {
+    if kind == ErrorKind::Interrupted {
         return true;
     }
-    os::fail(what);
+    tell(rt, what, why);
     false
 }
 
@@ -56,41 +77,42 @@ pub struct Chunk {
 }
 
 // Reads once, over the start of a buffer. A read that fails for good ends the input there.
-fn once(buffer: &mut [u8], what: &[u8]) -> Chunk
+fn once<R: Input + Clock + Eprint>(rt: &R, buffer: &mut [u8], what: &[u8]) -> Chunk
     ensures { IsPrefixLen result.n buffer.new }
 {
-    let got = libc::read(STDIN_FILENO, buffer);
-    let n = io::count(got, buffer);
-    if got < 0 {
-        let more = again(what);
-        return Chunk {
+    match rt.reader().read(buffer) {
+        Ok(n) => Chunk {
             n,
-            more,
-            whole: more,
-        };
-    }
-    Chunk {
-        n,
-        more: 0 < n,
-        whole: true,
+            more: 0 < n,
+            whole: true,
+        },
+        Err(why) => {
+            let more = again(rt, what, why);
+            Chunk {
+                n: 0,
+                more,
+                whole: more,
+            }
+        }
     }
 }
 
 // Reads until the buffer is full, the input ends, or a read fails for good; a line on standard error then says `what` and why. A proved loop has to end, so it counts
-// its turns down, from a number that no input uses up.
-pub fn fill(buffer: &mut [u8], what: &[u8]) -> Chunk
+// its turns, up to a number that no input uses up.
+pub fn fill<R: Input + Clock + Eprint>(rt: &R, buffer: &mut [u8], what: &[u8]) -> Chunk
     ensures { IsPrefixLen result.n buffer.new }
 {
     let mut n = 0;
     let mut more = true;
     let mut whole = true;
-    let mut turns = u64::MAX;
-    while turns > 0 && more && n < buffer.len() {
-        let chunk = once(&mut buffer[n..], what);
+    for _ in 0..u64::MAX {
+        if !more || buffer.len() <= n {
+            break;
+        }
+        let chunk = once(rt, &mut buffer[n..], what);
         n += chunk.n;
         more = chunk.more;
         whole = chunk.whole;
-        turns -= 1;
     }
     Chunk { n, more, whole }
 }
@@ -106,11 +128,11 @@ pub struct Taken {
 }
 
 // Feeds the next 64 KB to a table.
-fn feed_on(t: &mut Table, tally: Tally, what: &[u8]) -> Taken
+fn feed_on<R: Input + Clock + Eprint>(rt: &R, t: &mut Table, tally: Tally, what: &[u8]) -> Taken
     ensures { SomeBytes t.old tally t.new result.tally }
 {
     let mut buffer = io::large_buffer();
-    let chunk = fill(&mut buffer, what);
+    let chunk = fill(rt, &mut buffer, what);
     let n = chunk.n;
     let tally = feeding::feed(t, tally, &buffer[..n]);
     Taken {
@@ -121,24 +143,55 @@ fn feed_on(t: &mut Table, tally: Tally, what: &[u8]) -> Taken
 }
 
 // Reads a log to its end and feeds it to a table, of which nothing else is kept but the tally. A read that fails for good ends the log there.
-pub fn log(t: &mut Table, what: &[u8]) -> Taken
+pub fn log<R: Input + Clock + Eprint>(rt: &R, t: &mut Table, what: &[u8]) -> Taken
     ensures { SomeBytes t.old started t.new result.tally }
 {
-    let mut taken = feed_on(t, feeding::start(), what);
-    let mut turns = u64::MAX;
-    while turns > 0 && taken.more {
+    let mut taken = feed_on(rt, t, feeding::start(), what);
+    for _ in 0..u64::MAX {
+        if !taken.more {
+            break;
+        }
         let tally = taken.tally;
-        taken = feed_on(t, tally, what);
-        turns -= 1;
+        taken = feed_on(rt, t, tally, what);
     }
     taken
 }
 
+// ---- what was asked
+
+// Whether the program was given such an argument; argument 0 is its own name.
+pub fn has_argument<R: Env>(rt: &R, i: usize) -> bool {
+    let mut room = [0u8; 1];
+    match rt.arg(i, &mut room) {
+        Ok(_) | Err(FillError::TooLong) => true,
+        Err(FillError::NotPresent) => false,
+    }
+}
+
 // ---- the end
 
-// Says that everything was read and written, where it was and a script asked for that.
-pub fn done(all: bool) {
-    if all && 1 < os::arg_count() {
-        io::write_all(DONE_FILENO, b"done\n");
+// What a shell gives as the status of a program that SIGPIPE ended. std keeps that signal off, and a write fails in its place; the scripts say that the reader is gone (tools/program.sh).
+const READER_GONE: u8 = 141;
+
+// The exit status: 0 where everything was read and everything written, and else 1.
+pub fn done(all: bool) -> ExitCode {
+    if all {
+        ExitCode::SUCCESS
+    } else {
+        ExitCode::FAILURE
+    }
+}
+
+// The same of a program that wrote to standard output; where it could not, a line on standard error says `what` and why, but where the reader of the output is gone, no line does.
+pub fn ended<R: Eprint>(rt: &R, whole: bool, written: Result<()>, what: &[u8]) -> ExitCode {
+    match written {
+        Ok(()) => done(whole),
+        Err(why) => {
+            if why.kind() == ErrorKind::BrokenPipe {
+                return ExitCode::from(READER_GONE);
+            }
+            tell(rt, what, why);
+            done(false)
+        }
     }
 }

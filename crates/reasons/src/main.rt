@@ -6,16 +6,19 @@
 
 use lookup::{Table, WORDS};
 use record::SIZE;
+use std::io::Result;
+use std::process::ExitCode;
+use std::rt::Clock;
 
 // 5,040 records: a buffer that is full ends with a record.
 const ROOM: usize = 65520;
 
-// What there is to tell of the records up to here: how many there are, how many of another PGN, and whether every line was written.
+// What there is to tell of the records up to here: how many there are, how many of another PGN, and whether every line was written, or why not.
 #[derive(Clone, Copy)]
 struct Told {
     records: u64,
     other: u64,
-    written: bool,
+    written: Result<()>,
 }
 
 // The same of a log that is read, with the bytes of a record that is not whole, whether more may follow, and whether no read has failed.
@@ -27,14 +30,15 @@ struct Log {
     whole: bool,
 }
 
-// The line of a record, where it was refused or contradicts. Whether it was written.
-fn print(number: u64, answer: u8, id: u32, bytes: &[u8; 8]) -> bool {
+// The line of a record, where it was refused or contradicts. An error says why it was not written.
+fn print<R: Print>(rt: &R, number: u64, answer: u8, id: u32, bytes: &[u8; 8]) -> Result<()> {
     if (answer == 0) | (answer == 2) {
-        return true;
+        return Ok(());
     }
     let fields = frame::split(id);
     let wire = message::from_bytes(bytes);
     lines::line(
+        rt,
         b"no",
         &[
             number,
@@ -47,12 +51,13 @@ fn print(number: u64, answer: u8, id: u32, bytes: &[u8; 8]) -> bool {
 }
 
 // One record more: its frame is learned from, and the answer told.
-fn tell(t: &mut Table, before: Told, r: &[u8]) -> Told {
+fn tell<R: Print>(rt: &R, t: &mut Table, before: Told, r: &[u8]) -> Told {
     let f = record::read(r);
     let bytes = f.bytes;
     let a = table::learn(t, f.id, f.len, &bytes);
     let records = std::num::wrapping_add_u64(before.records, 1);
-    let written = print(records, a.number, f.id, &bytes) & before.written;
+    let written = print(rt, records, a.number, f.id, &bytes);
+    let written = before.written.and(written);
     let mut other = before.other;
     if a.number == 2 {
         other = std::num::wrapping_add_u64(other, 1);
@@ -65,25 +70,26 @@ fn tell(t: &mut Table, before: Told, r: &[u8]) -> Told {
 }
 
 // The whole records of a chunk, one after another.
-fn tell_all(t: &mut Table, before: Told, s: &[u8]) -> Told {
+fn tell_all<R: Print>(rt: &R, t: &mut Table, before: Told, s: &[u8]) -> Told {
     let mut told = before;
     let mut i = 0;
     while SIZE <= s.len() - i {
         let e = i + SIZE;
-        told = tell(t, told, &s[i..e]);
+        told = tell(rt, t, told, &s[i..e]);
         i = e;
     }
     told
 }
 
-fn read_on(t: &mut Table, before: Told) -> Log {
+fn read_on<R: Input + Clock + Print + Eprint>(rt: &R, t: &mut Table, before: Told) -> Log {
     let mut buffer = [0u8; ROOM];
     let chunk = reading::fill(
+        rt,
         &mut buffer,
         b"why: reading stopped, and only what came before is told",
     );
     let n = chunk.n;
-    let told = tell_all(t, before, &buffer[..n]);
+    let told = tell_all(rt, t, before, &buffer[..n]);
     Log {
         told,
         left: n % SIZE,
@@ -92,25 +98,21 @@ fn read_on(t: &mut Table, before: Told) -> Log {
     }
 }
 
-// Whether every line was written, the last one too.
-fn end(log: Log) -> bool {
+// An error says why not every line was written, the last one too.
+fn end<R: Print>(rt: &R, log: Log) -> Result<()> {
     let told = log.told;
-    let last = lines::line(b"end", &[told.records, told.other, log.left as u64]);
-    if told.written & last {
-        return true;
-    }
-    os::fail(b"why: the facts could not be written (make room, or set TMPDIR to another folder)");
-    false
+    let last = lines::line(rt, b"end", &[told.records, told.other, log.left as u64]);
+    told.written.and(last)
 }
 
-// A proved loop has to end, so it counts its turns down, from a number that no log uses up.
-fn main() {
+// A proved loop has to end, so it counts its turns, up to a number that no log uses up.
+fn main(rt: HostRuntime) -> ExitCode {
     let mut t = [0u64; WORDS];
     table::empty(&mut t);
     let told = Told {
         records: 0,
         other: 0,
-        written: true,
+        written: Ok(()),
     };
     let mut log = Log {
         told,
@@ -118,11 +120,18 @@ fn main() {
         more: true,
         whole: true,
     };
-    let mut turns = u64::MAX;
-    while turns > 0 && log.more {
+    for _ in 0..u64::MAX {
+        if !log.more {
+            break;
+        }
         let told = log.told;
-        log = read_on(&mut t, told);
-        turns -= 1;
+        log = read_on(&rt, &mut t, told);
     }
-    reading::done(end(log) & log.whole);
+    let written = end(&rt, log);
+    reading::ended(
+        &rt,
+        log.whole,
+        written,
+        b"why: the facts could not be written (make room, or set TMPDIR to another folder)",
+    )
 }

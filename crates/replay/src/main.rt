@@ -7,9 +7,11 @@ ghost use Rattle.replaying.specs.Feed.{started};
 ghost use Rattle.replay.specs.Bytes.{SomeTrace};
 
 use bridge::{COUNTERS, CounterWords, QUEUES, QueueWords};
-use libc::STDOUT_FILENO;
 use ports::{Filters, WORDS};
 use replaying::Tally;
+use std::io::Result;
+use std::process::ExitCode;
+use std::rt::Clock;
 
 // A trace that is read, up to here: its tally, whether more may follow, and whether no read has failed.
 #[derive(Clone, Copy)]
@@ -20,11 +22,18 @@ struct Taken {
 }
 
 // Feeds the next 64 KB to the bridge.
-fn feed_on(c: &mut CounterWords, q: &mut QueueWords, w: &mut Filters, tally: Tally) -> Taken
+fn feed_on<R: Input + Clock + Eprint>(
+    rt: &R,
+    c: &mut CounterWords,
+    q: &mut QueueWords,
+    w: &mut Filters,
+    tally: Tally,
+) -> Taken
     ensures { SomeTrace (bridge c.old q.old) w.old tally (bridge c.new q.new) w.new result.tally }
 {
     let mut buffer = io::large_buffer();
     let chunk = reading::fill(
+        rt,
         &mut buffer,
         b"replay: reading stopped, and only what came before is replayed",
     );
@@ -37,41 +46,48 @@ fn feed_on(c: &mut CounterWords, q: &mut QueueWords, w: &mut Filters, tally: Tal
     }
 }
 
-// Reads a trace to its end and feeds it to the bridge. A read that fails for good ends the trace there. A proved loop has to end, so it counts its turns down, from a number that no
+// Reads a trace to its end and feeds it to the bridge. A read that fails for good ends the trace there. A proved loop has to end, so it counts its turns, up to a number that no
 // input uses up.
-fn day(c: &mut CounterWords, q: &mut QueueWords, w: &mut Filters) -> Taken
+fn day<R: Input + Clock + Eprint>(
+    rt: &R,
+    c: &mut CounterWords,
+    q: &mut QueueWords,
+    w: &mut Filters,
+) -> Taken
     ensures { SomeTrace (bridge c.old q.old) w.old started (bridge c.new q.new) w.new result.tally }
 {
-    let mut taken = feed_on(c, q, w, replaying::start());
-    let mut turns = u64::MAX;
-    while turns > 0 && taken.more {
+    let mut taken = feed_on(rt, c, q, w, replaying::start());
+    for _ in 0..u64::MAX {
+        if !taken.more {
+            break;
+        }
         let tally = taken.tally;
-        taken = feed_on(c, q, w, tally);
-        turns -= 1;
+        taken = feed_on(rt, c, q, w, tally);
     }
     taken
 }
 
-// Whether the whole text was written.
-fn print(c: &CounterWords, q: &QueueWords, tally: Tally) -> bool {
+// An error says why not the whole text was written.
+fn print<R: Print>(rt: &R, c: &CounterWords, q: &QueueWords, tally: Tally) -> Result<()> {
     let mut page = [0u8; replaying::PAGE];
     let a = replaying::finish(c, q, tally, &mut page);
     let n = io::count(a.detail as isize, &page);
-    if io::write_all(STDOUT_FILENO, &page[..n]) {
-        return true;
-    }
-    os::fail(b"replay: the replay could not be written");
-    false
+    rt.write_all(&page[..n])
 }
 
-fn main() {
+fn main(rt: HostRuntime) -> ExitCode {
     let mut c = [0u64; COUNTERS];
     let mut q = [0u64; QUEUES];
     let mut w = [0u32; WORDS];
     bridge::fresh(&mut c, &mut q);
     ports::fresh(&mut w);
-    let taken = day(&mut c, &mut q, &mut w);
+    let taken = day(&rt, &mut c, &mut q, &mut w);
     let tally = taken.tally;
-    let written = print(&c, &q, tally);
-    reading::done(taken.whole & written);
+    let written = print(&rt, &c, &q, tally);
+    reading::ended(
+        &rt,
+        taken.whole,
+        written,
+        b"replay: the replay could not be written",
+    )
 }

@@ -2,61 +2,65 @@
 #![tactic(auto)]
 
 use feeding::Tally;
-use libc::STDOUT_FILENO;
 use lookup::{Next, ROWS, Table};
 use message::Key;
+use std::io::Result;
 use tally::Cells;
 
 // Room for the header or the last line.
 const LINE: usize = 128;
 
 // Writes the first n bytes of a page.
-fn write(page: &[u8], n: usize) -> bool {
+fn write<P: Print>(out: &P, page: &[u8], n: usize) -> Result<()> {
     let n = lines::front(n, page);
-    io::write_all(STDOUT_FILENO, &page[..n])
+    out.write_all(&page[..n])
 }
 
-fn write_header() -> bool {
+fn write_header<P: Print>(out: &P) -> Result<()> {
     let mut page = [0u8; LINE];
     let n = report::put_header(&mut page, 0);
-    write(&page, n)
+    write(out, &page, n)
 }
 
-fn write_key(t: &Table, acc: &Cells, limit: u32, key: Key) -> bool {
+fn write_key<P: Print>(out: &P, t: &Table, acc: &Cells, limit: u32, key: Key) -> Result<()> {
     let mut page = [0u8; report::PAGE];
     let n = report::put_key(t, acc, limit, key, &mut page, 0);
-    write(&page, n)
+    write(out, &page, n)
 }
 
 // The held keys; 16 rows hold no more than 16.
-fn write_keys(t: &Table, acc: &Cells, limit: u32) -> bool {
-    let mut all = true;
+fn write_keys<P: Print>(out: &P, t: &Table, acc: &Cells, limit: u32) -> Result<()> {
+    let mut all = Ok(());
     let mut next = lookup::first_key(t);
-    let mut i = 0;
-    while i < ROWS {
+    for _ in 0..ROWS {
         match next {
             Next::Found(key) => {
-                all = write_key(t, acc, limit, key) & all;
+                all = all.and(write_key(out, t, acc, limit, key));
                 next = lookup::next_key(t, key.source, key.destination, key.k);
             }
             Next::NoMore => return all,
         }
-        i += 1;
     }
     all
 }
 
-fn write_last(tally: Tally) -> bool {
+fn write_last<P: Print>(out: &P, tally: Tally) -> Result<()> {
     let mut page = [0u8; LINE];
     let counts = tally.counts;
     let n = listing::put_last(&mut page, 0, counts, record::left_in(tally.left));
-    write(&page, n)
+    write(out, &page, n)
 }
 
-// Whether the whole report was written.
-pub fn write_all(t: &Table, acc: &Cells, limit: u32, tally: Tally) -> bool {
-    let first = write_header();
-    let keys = write_keys(t, acc, limit);
-    let last = write_last(tally);
-    first & keys & last
+// An error says why not the whole report was written.
+pub fn write_all<P: Print>(
+    out: &P,
+    t: &Table,
+    acc: &Cells,
+    limit: u32,
+    tally: Tally,
+) -> Result<()> {
+    let first = write_header(out);
+    let keys = write_keys(out, t, acc, limit);
+    let last = write_last(out, tally);
+    first.and(keys).and(last)
 }

@@ -2,8 +2,7 @@
 use crate::said::number;
 use answers::Answer;
 use ask::{Found, Parameter};
-use libc::STDIN_FILENO;
-use lines::{bytes, end, four, front, more, numbers, room, two, words};
+use lines::{STDIN_FILENO, bytes, end, four, front, more, numbers, room, two, words};
 use lookup::Table;
 
 fn judged(a: Answer, n: u8) {

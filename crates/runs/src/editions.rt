@@ -1,7 +1,6 @@
 // A key's edition of the dictionary: giving it another one, and which it has.
 use crate::said::answer;
-use libc::STDOUT_FILENO;
-use lines::{end, four, more};
+use lines::{STDOUT_FILENO, end, four, more};
 use lookup::Table;
 
 fn shown(number: u32) {

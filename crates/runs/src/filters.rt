@@ -29,23 +29,19 @@ fn is_refused(from: u8, to: u8, a: Answer) -> bool {
 // The call from one port to all port numbers; one more for each answer 15.
 fn from_port(w: &mut Filters, what: u8, from: u8, x: u32, before: u32) -> u32 {
     let mut refused = before;
-    let mut to = 0u32;
-    while to < 256 {
-        let a = call(w, what, from, to as u8, x);
-        if is_refused(from, to as u8, a) {
+    for to in 0..=u8::MAX {
+        let a = call(w, what, from, to, x);
+        if is_refused(from, to, a) {
             refused = std::num::wrapping_add_u32(refused, 1);
         }
-        to += 1;
     }
     refused
 }
 
 fn sweep(w: &mut Filters, what: u8, x: u32) {
     let mut refused = 0u32;
-    let mut from = 0u32;
-    while from < 256 {
-        refused = from_port(w, what, from as u8, x, refused);
-        from += 1;
+    for from in 0..=u8::MAX {
+        refused = from_port(w, what, from, x, refused);
     }
     first(15);
     more(refused);

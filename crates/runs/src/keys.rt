@@ -1,7 +1,6 @@
 // The learned table: learning, forgetting, the held keys, and words written into it.
 use crate::said::answer;
-use libc::STDOUT_FILENO;
-use lines::{end, four, long, more, two};
+use lines::{STDOUT_FILENO, end, four, long, more, two};
 use lookup::{Next, Table, WORDS};
 
 // A key, where there is one, and whether there is.
@@ -50,13 +49,11 @@ fn put(t: &mut Table, at: usize, low: u32, high: u32) {
 
 fn dump(t: &Table) {
     io::write_all(STDOUT_FILENO, b"words");
-    let mut i = 0;
-    while i < WORDS {
+    for i in 0..WORDS {
         if t[i] != 0 {
             long(i as u64);
             long(t[i]);
         }
-        i += 1;
     }
     end();
 }

@@ -1,8 +1,7 @@
 // A log in chunks, and its listing.
 use crate::said::answer;
 use feeding::Tally;
-use libc::{STDIN_FILENO, STDOUT_FILENO};
-use lines::{end, front, two};
+use lines::{STDIN_FILENO, STDOUT_FILENO, end, front, two};
 use lookup::Table;
 
 fn fed(t: &mut Table, tally: Tally, chunk: &mut [u8]) -> Tally {
@@ -34,10 +33,8 @@ fn finish_in(t: &Table, tally: Tally, size: usize) {
 
 fn all(t: &mut Table, chunks: usize) -> Tally {
     let mut tally = feeding::start();
-    let mut i = 0usize;
-    while i < chunks {
+    for _ in 0..chunks {
         tally = next(t, tally);
-        i += 1;
     }
     tally
 }

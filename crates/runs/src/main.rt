@@ -45,14 +45,15 @@ fn run(w: &mut Filters, t: &mut Table, b: &[u8; 14]) {
     }
 }
 
-// What the calls are lent stands here. A proved loop has to end, so it counts its turns down, from a number that no run uses up.
+// What the calls are lent stands here. A proved loop has to end, so it counts its turns, up to a number that no run uses up.
 fn main() {
     let mut w = [0u32; ports::WORDS];
     let mut t = [0u64; lookup::WORDS];
     let mut b = [0u8; 14];
-    let mut turns = u64::MAX;
-    while turns > 0 && lines::case(&mut b) {
+    for _ in 0..u64::MAX {
+        if !lines::case(&mut b) {
+            break;
+        }
         run(&mut w, &mut t, &b);
-        turns -= 1;
     }
 }

@@ -7,9 +7,11 @@
 
 use feeding::Tally;
 use keyrow::POSITIONS;
-use libc::STDERR_FILENO;
 use lookup::{Next, ROWS, Table, WORDS};
 use message::Key;
+use std::io::Result;
+use std::process::ExitCode;
+use std::rt::Clock;
 
 // Whether a map of n parameters uses transport. A key in conflict has n = 0, and no flag: it would go by the order of its messages.
 fn transport_of(t: &Table, key: Key, n: u8) -> u64 {
@@ -31,14 +33,15 @@ fn transport_of(t: &Table, key: Key, n: u8) -> u64 {
     0
 }
 
-// The line of a position, where something stands there. Whether it was written.
-fn print_position(t: &Table, key: Key, position: u8) -> bool {
+// The line of a position, where something stands there. An error says why it was not written.
+fn print_position<R: Print>(rt: &R, t: &Table, key: Key, position: u8) -> Result<()> {
     let p = ask::parameter_at(t, key.source, key.destination, key.k, position);
     let a = p.answer;
     if a.number != 0 { // 18: nothing stands there
-        return true;
+        return Ok(());
     }
     lines::line(
+        rt,
         b"at",
         &[
             position as u64,
@@ -49,21 +52,20 @@ fn print_position(t: &Table, key: Key, position: u8) -> bool {
     )
 }
 
-fn print_positions(t: &Table, key: Key, n: u8) -> bool {
-    let mut all = true;
-    let mut position = 0;
-    while position < n {
-        position += 1;
-        all = print_position(t, key, position) & all;
+fn print_positions<R: Print>(rt: &R, t: &Table, key: Key, n: u8) -> Result<()> {
+    let mut all = Ok(());
+    for before in 0..n {
+        all = all.and(print_position(rt, t, key, before + 1));
     }
     all
 }
 
-fn print_key(t: &Table, key: Key) -> bool {
+fn print_key<R: Print>(rt: &R, t: &Table, key: Key) -> Result<()> {
     let a = ask::judge(t, key.source, key.destination, key.k);
     let j = a.judgement;
     let n = ask::count(t, key.source, key.destination, key.k);
     let first = lines::line(
+        rt,
         b"key",
         &[
             key.source as u64,
@@ -76,81 +78,92 @@ fn print_key(t: &Table, key: Key) -> bool {
             lookup::edition_of(t, key.source, key.destination, key.k) as u64,
         ],
     );
-    print_positions(t, key, n) & first
+    first.and(print_positions(rt, t, key, n))
 }
 
 // The held keys; 16 rows hold no more than 16.
-fn print_keys(t: &Table) -> bool {
-    let mut all = true;
+fn print_keys<R: Print>(rt: &R, t: &Table) -> Result<()> {
+    let mut all = Ok(());
     let mut next = lookup::first_key(t);
-    let mut i = 0;
-    while i < ROWS {
+    for _ in 0..ROWS {
         match next {
             Next::Found(key) => {
-                all = print_key(t, key) & all;
+                all = all.and(print_key(rt, t, key));
                 next = lookup::next_key(t, key.source, key.destination, key.k);
             }
             Next::NoMore => return all,
         }
-        i += 1;
     }
     all
 }
 
-// Whether every line was written.
-fn print(t: &Table, tally: Tally) -> bool {
-    let keys = print_keys(t);
+// An error says why not every line was written.
+fn print<R: Print>(rt: &R, t: &Table, tally: Tally) -> Result<()> {
+    let keys = print_keys(rt, t);
     let counts = tally.counts;
     let left = record::left_in(tally.left);
     let last = lines::line(
+        rt,
         b"end",
         &[counts.records, counts.refused, counts.other, left as u64],
     );
-    if keys & last {
-        return true;
-    }
-    os::fail(b"shelf: the facts could not be written (make room, or set TMPDIR to another folder)");
-    false
+    keys.and(last)
 }
 
-fn of_log(t: &mut Table) {
+// Status 0 where everything was read, and every line written.
+fn shown<R: Print + Eprint>(rt: &R, t: &Table, tally: Tally, whole: bool) -> ExitCode {
+    let written = print(rt, t, tally);
+    reading::ended(
+        rt,
+        whole,
+        written,
+        b"shelf: the facts could not be written (make room, or set TMPDIR to another folder)",
+    )
+}
+
+fn of_log<R: Input + Clock + Print + Eprint>(rt: &R, t: &mut Table) -> ExitCode {
     let log = reading::log(
+        rt,
         t,
         b"shelf: reading stopped, and only what came before is shown",
     );
     let tally = log.tally;
-    reading::done(print(t, tally) & log.whole);
+    shown(rt, t, tally, log.whole)
 }
 
-// Whether the image was undamaged and every line written.
-fn show(t: &mut Table, image: &[u8]) -> bool {
+// Status 0 where the image was undamaged and every line written.
+fn show<R: Print + Eprint>(rt: &R, t: &mut Table, image: &[u8]) -> ExitCode {
     let a = load::load(t, image);
     if a.number == 0 {
-        return print(t, feeding::start());
+        return shown(rt, t, feeding::start(), true);
     }
-    io::write_all(
-        STDERR_FILENO,
-        b"shelf: the image is damaged (answer 21), and nothing is shown: save it again, or leave out --image where it is a log\n",
+    let _ = eprintln!(rt;
+        "shelf: the image is damaged (answer 21), and nothing is shown: save it again, or leave out --image where it is a log"
     );
-    false
+    reading::done(false)
 }
 
 // No image has as many bytes as the buffer, so what comes behind them need not be read: it is damaged.
-fn of_image(t: &mut Table) {
+fn of_image<R: Input + Clock + Print + Eprint>(rt: &R, t: &mut Table) -> ExitCode {
     let mut buffer = io::buffer();
-    let image = reading::fill(&mut buffer, b"shelf: reading stopped, and nothing is shown");
+    let image = reading::fill(
+        rt,
+        &mut buffer,
+        b"shelf: reading stopped, and nothing is shown",
+    );
     let n = image.n;
-    if image.whole {
-        reading::done(show(t, &buffer[..n]));
+    if !image.whole {
+        return reading::done(false);
     }
+    show(rt, t, &buffer[..n])
 }
 
-fn main() {
+fn main(rt: HostRuntime) -> ExitCode {
     let mut t = [0u64; WORDS];
     table::empty(&mut t);
-    if 2 < os::arg_count() {
-        of_image(&mut t);
+    if reading::has_argument(&rt, 2) {
+        of_image(&rt, &mut t)
     } else {
-        of_log(&mut t);
+        of_log(&rt, &mut t)
     }
 }

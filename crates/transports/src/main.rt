@@ -8,8 +8,7 @@
 //   5 place, word of 8 bytes         writes a head word; no line
 #![tactic(auto)]
 
-use libc::STDIN_FILENO;
-use lines::{bytes, end, first, four, front, more, two};
+use lines::{STDIN_FILENO, bytes, end, first, four, front, more, two};
 use transport::{BYTES, Bytes, Heads, MOST, Payload, WORDS};
 
 // The eight data bytes of a case.
@@ -66,15 +65,16 @@ fn run(heads: &mut Heads, held: &mut Bytes, out: &mut Payload, b: &[u8; 16]) {
     }
 }
 
-// What the calls are lent stands here. A proved loop has to end, so it counts its turns down, from a number that no run uses up.
+// What the calls are lent stands here. A proved loop has to end, so it counts its turns, up to a number that no run uses up.
 fn main() {
     let mut heads = [0u64; WORDS];
     let mut held = [0u8; BYTES];
     let mut out = [0u8; MOST];
     let mut b = [0u8; 16];
-    let mut turns = u64::MAX;
-    while turns > 0 && lines::case(&mut b) {
+    for _ in 0..u64::MAX {
+        if !lines::case(&mut b) {
+            break;
+        }
         run(&mut heads, &mut held, &mut out, &b);
-        turns -= 1;
     }
 }

@@ -1,8 +1,7 @@
 // Judging, packing and reading over plain lists, the rooms judge and payload.
 ghost use Rattle.io.specs.Counts.{IsPrefixLen};
 
-use libc::STDIN_FILENO;
-use lines::{bytes, end, first, more, numbers, room, two, words};
+use lines::{STDIN_FILENO, bytes, end, first, more, numbers, room, two, words};
 use payload::Laying;
 
 fn laying(l: Laying) {

@@ -26,12 +26,13 @@ fn run(b: &[u8; 14]) {
     }
 }
 
-// A proved loop has to end, so it counts its turns down, from a number that no run uses up.
+// A proved loop has to end, so it counts its turns, up to a number that no run uses up.
 fn main() {
     let mut b = [0u8; 14];
-    let mut turns = u64::MAX;
-    while turns > 0 && lines::case(&mut b) {
+    for _ in 0..u64::MAX {
+        if !lines::case(&mut b) {
+            break;
+        }
         run(&b);
-        turns -= 1;
     }
 }
