@@ -1,11 +1,7 @@
-use Prim.Native.Nat.{ℕ}
-use mathlib.Core.List.{List}
+-- What some bytes made before the loop, some bytes make now. Assumes nothing.
 use Rattle.feeding.specs.Feed.{started}
 use Rattle.reading.specs.Bytes.{SomeBytes}
 use Rattle.reading.proofs.log.Given as goal
 
-abbrev pub invariant-loop-turns : goal.invariant-loop-turns
-invariant-loop-turns l = (u : List ℕ) → SomeBytes u started l.initial.t l.initial.taken.tally → SomeBytes u started l.t l.taken.tally
-
-abbrev pub decreases-loop-turns : goal.decreases-loop-turns
-decreases-loop-turns l = l.turns
+abbrev pub invariant-loop : goal.invariant-loop
+invariant-loop g l = SomeBytes l.fn.t started l.t l.taken.tally
