@@ -4,13 +4,13 @@
 
 use lines::{STDOUT_FILENO, end, four, more};
 
-// A further number of a line, with its sign. One comes off before the cast, since the least number has no opposite.
+// A further number of a line, with its sign.
 fn signed(n: i64) {
     if n < 0 {
         io::write_all(STDOUT_FILENO, b" -");
-        io::print_decimal(STDOUT_FILENO, (-1 - n) as u64 + 1);
+        io::print_decimal(STDOUT_FILENO, n.unsigned_abs());
     } else {
-        lines::long(n as u64);
+        lines::long(n.unsigned_abs());
     }
 }
 

@@ -72,11 +72,8 @@ fn tell<R: Print>(rt: &R, t: &mut Table, before: Told, r: &[u8]) -> Told {
 // The whole records of a chunk, one after another.
 fn tell_all<R: Print>(rt: &R, t: &mut Table, before: Told, s: &[u8]) -> Told {
     let mut told = before;
-    let mut i = 0;
-    while SIZE <= s.len() - i {
-        let e = i + SIZE;
-        told = tell(rt, t, told, &s[i..e]);
-        i = e;
+    for r in s.chunks_exact(SIZE) {
+        told = tell(rt, t, told, r);
     }
     told
 }

@@ -27,10 +27,11 @@ fn after(t: &Table, n: Next) -> Next {
 fn walk(t: &Table) {
     io::write_all(STDOUT_FILENO, b"keys");
     let mut at = lookup::first_key(t);
-    let mut turns = 0u32;
-    while turns < 20 && is_key(at) {
+    for _ in 0..20 {
+        if !is_key(at) {
+            break;
+        }
         at = after(t, at);
-        turns += 1;
     }
     end();
 }
