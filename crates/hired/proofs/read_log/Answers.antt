@@ -5,16 +5,8 @@ use Rattle.hired.proofs.Chunks.{no_bytes, more_bytes}
 use Rattle.hired.proofs.read_log.Goals as goal
 
 pub loop-turns-init : goal.loop-turns-init
-loop-turns-init c = let a = c.args in rw c.start-tally.ensures (no_bytes (2 ^ 31) a.t.now a.acc.now)
-
-pub overflow_add-turns : goal.overflow_add-turns
-overflow_add-turns c = omega arith
-
-pub loop-turns-smaller : goal.loop-turns-smaller
-loop-turns-smaller c = omega arith
+loop-turns-init g c = let a = c.args in rw c.start-tally.ensures (no_bytes (2 ^ 31) a.t.now a.acc.now)
 
 pub loop-turns-preserved : goal.loop-turns-preserved
-loop-turns-preserved c = more_bytes (2 ^ 31) _ _ _ _ _ _ _ _ _ c.loop-turns.invariant c.feed_on-taken.ensures
+loop-turns-preserved g c = more_bytes (2 ^ 31) _ _ _ _ _ _ _ _ _ c.loop-turns.invariant c.feed_on-taken.ensures
 
-pub returns : goal.returns
-returns c = c.loop-turns.invariant
