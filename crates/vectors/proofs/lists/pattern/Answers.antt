@@ -1,5 +1,5 @@
 -- The loop ends, and goes no further than the list. Assumes nothing.
-use Rattle.std.proofs.Common.{◌-◌, refl, arith, length-set, rules}
+use Rattle.std.proofs.Common.{refl, arith, length-set, rules}
 use Rattle.io.proofs.Counting.{prefix_len_of_le}
 use Rattle.vectors.proofs.lists.pattern.Goals as goal
 
