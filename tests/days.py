@@ -184,7 +184,7 @@ CHECKS = TABLE + [
     ("README.md has what ./replay writes of samples/day.trace", shown_in_readme),
     hands.help_of("./replay --help"),
     hands.help_of("tools/mktrace --help"),
-    hands.closed_pipe("./replay samples/day.trace", (1, "replay: the replay could not be written: Broken pipe\n")),
+    hands.closed_pipe("./replay samples/day.trace", (1, "replay: the replay could not be written: its reader is gone\n")),
     hands.closed_pipe("tools/mktrace samples/day.txt", (-signal.SIGPIPE, "")),
     ("./replay from non-blocking standard input", lambda: hands.not_blocking("./replay", DAY[:70], bridges.replayed(DAY[:70]).encode())),
     ("./replay, and SIGTERM to the script", lambda: hands.stopped(signal.SIGTERM, "script", "./replay")),

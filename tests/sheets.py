@@ -305,7 +305,7 @@ POS   SPN  NAME                       LEAST  GREATEST   MEAN     UNIT
     row("./hire --sheet < samples", "", 1, ("Hire of standard input: 0 keys\nReading stopped before the end of the log.\n" + NO_PRESSURE + LEGEND
         + "\n0 records: 0 refused, 0 of other PGNs, payloads among them.\n").encode(), "hire: reading stopped, and only what came before is reported: Is a directory"),
     hands.help_of("./hire --help"),
-    hands.closed_pipe("./hire samples/hire.log", (1, "hire: the report could not be written: Broken pipe\n")),
+    hands.closed_pipe("./hire samples/hire.log", (1, "hire: the report could not be written: its reader is gone\n")),
     hands.closed_pipe("./hire --sheet samples/hire.log", (1, "hire: the words could not be written: their reader is gone\n")),
     ("./hire from non-blocking standard input", lambda: hands.not_blocking("./hire", hands.TWO, hires.report(hands.TWO).encode())),
     ("./hire, and SIGTERM to the script", lambda: hands.stopped(signal.SIGTERM, "script", "./hire")),

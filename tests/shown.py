@@ -393,7 +393,7 @@ record 10, from 38 to 39, message 1
     hands.help_of("./shelf --help"),
     hands.help_of("./why --help"),
     hands.closed_pipe("./shelf samples/shelf.log", (1, "shelf: the words could not be written: their reader is gone\n")),
-    hands.closed_pipe("./shelf --facts samples/shelf.log", (1, "shelf: the facts could not be written (make room, or set TMPDIR to another folder): Broken pipe\n")),
+    hands.closed_pipe("./shelf --facts samples/shelf.log", (1, "shelf: the shelf could not be written: its reader is gone\n")),
     hands.closed_pipe("./why samples/shelf.log", (1, "why: the words could not be written: their reader is gone\n")),
     ("./why from non-blocking standard input", lambda: hands.not_blocking("./why", hands.TWO, (SAMPLES / "two-records.why").read_bytes())),
     ("./shelf, and SIGTERM to the script", lambda: hands.stopped(signal.SIGTERM, "script", "./shelf")),

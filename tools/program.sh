@@ -6,6 +6,7 @@
 #   one      the same with its article
 #   such     and with what it is
 #   example  a command that works
+#   writes   what it writes in one word: listing, image, report, replay
 # and then calls `read_from FILE` and `run_program`.
 set -u
 
@@ -117,7 +118,7 @@ stop() {
 }
 
 # Runs the program on what `read_from` found; further words go to it, behind a first one that it does not look at. The status is the program's: 0 where it has read and written
-# everything (crates/reading/src/lib.rt), and 1 where not and it has said why.
+# everything, and 1 where not and it has said why; 141 where the reader of what it writes is gone, of which it says nothing (crates/reading/src/lib.rt).
 run() {
     prepare_program
     made=$(made_by)
@@ -138,6 +139,7 @@ run() {
     wait "$pid"
     status=$?
     pid=
+    [ "$status" -ne 141 ] || die "the $writes could not be written: its reader is gone"
     [ "$status" -le 128 ] || die "the program was stopped by signal $((status - 128)) before it was done"
     [ "$status" -eq 0 ]
 }
