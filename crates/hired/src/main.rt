@@ -10,6 +10,7 @@ ghost use Rattle.hired.specs.Bytes.{SomeHire};
 use feeding::Tally;
 use lookup::{Table, WORDS};
 use reading::Taken;
+use std::io::Result;
 use std::process::ExitCode;
 use std::rt::Clock;
 use tally::Cells;
@@ -80,6 +81,11 @@ fn read_log<R: Input + Clock + Eprint>(rt: &R, t: &mut Table, acc: &mut Cells, s
     taken
 }
 
+// An error says why not the whole report was written.
+fn print<R: Print>(rt: &R, t: &Table, acc: &Cells, tally: Tally) -> Result<()> {
+    reporting::write_all(rt, t, acc, LIMIT, tally)
+}
+
 fn main(rt: HostRuntime) -> ExitCode {
     let mut t = [0u64; WORDS];
     let mut acc = [0u64; tally::WORDS];
@@ -88,7 +94,7 @@ fn main(rt: HostRuntime) -> ExitCode {
     let shown = reading::has_argument(&rt, 2);
     let log = read_log(&rt, &mut t, &mut acc, shown);
     let tally = log.tally;
-    let written = reporting::write_all(&rt, &t, &acc, LIMIT, tally);
+    let written = print(&rt, &t, &acc, tally);
     reading::ended(
         &rt,
         log.whole,
