@@ -79,7 +79,7 @@ TABLE = [
     replays("./replay < samples", NOTHING, "reading stopped, and only what came before is replayed: Is a directory", 1),
     replays("./replay > /dev/full", "", "the replay could not be written: No space left on device", 1),
     replays("./replay >&-", "", "the replay could not be written: Bad file descriptor", 1),
-    replays("TMPDIR=/no/such/folder ./replay", TOLD),
+    replays("TMPDIR=/no/such/folder ./replay", "", "no temporary file could be made: set TMPDIR to ", 1),
     replays("./replay samples/day.txt", bridges.replayed((ROOT / "samples" / "day.txt").read_bytes()), "this trace looks like text, and a trace is records of 14 bytes: tools/mktrace makes them "),
 ]
 

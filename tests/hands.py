@@ -138,7 +138,7 @@ TABLE = [
     lists("./list < samples", NOTHING, "reading stopped, and only what came before is listed: Is a directory", 1),
     lists("./list > /dev/full", "", "the listing could not be written: No space left on device", 1),
     lists("./list >&-", "", "the listing could not be written: Bad file descriptor", 1),
-    lists("TMPDIR=/no/such/folder ./list", LISTED),
+    lists("TMPDIR=/no/such/folder ./list", "", "no temporary file could be made: set TMPDIR to ", 1),
     lists("./list samples/trace.txt", model.listing(TRACE), "this log looks like text, and a log is records of 13 bytes: tools/candump2log makes them "),
     lists("./list < samples/trace.txt", model.listing(TRACE), "this log looks like text, "),
 

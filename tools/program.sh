@@ -124,6 +124,11 @@ run() {
     made=$(made_by)
     [ -z "$made" ] || ! is_text "$input" || printf '%s: this %s looks like text, and %s is %s\n' "$name" "$kind" "$one" "$made" >&2
 
+    # A folder with room for temporary files is asked for, as it always was; the sheets of ./shelf, ./why and ./hire need one.
+    note=$(mktemp 2>/dev/null) || die 'no temporary file could be made: set TMPDIR to a folder where you may write'
+    printf 'all ' 2>/dev/null >"$note" || die 'a temporary file could not be written: make room, or set TMPDIR to another folder'
+    rm -f "$note"
+
     pid=
     for signal in HUP INT QUIT TERM; do
         # shellcheck disable=SC2064
