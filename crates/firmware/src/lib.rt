@@ -29,8 +29,8 @@ ghost use Rattle.ports.specs.Filters.{commanded, decided, fresh_words};
 ghost use Rattle.transport.specs.Rows.{memory, fresh_heads};
 ghost use Rattle.transport.specs.Calls.{requested, arrived};
 ghost use Rattle.bridge.specs.Bridge.{bridge, fresh_bridge, answers_of, answering, in_answers, offered, slotted_as, slotted, standing_as, standing};
-ghost use Rattle.replaying.specs.Feed.{started as startedTrace, fed as fedTrace, feeding as feedingTrace};
-ghost use Rattle.replaying.specs.Lines.{finished as finishedTrace};
+ghost use Rattle.replaying.specs.Feed.{started as started_trace, fed as fed_trace, feeding as feeding_trace};
+ghost use Rattle.replaying.specs.Lines.{finished as finished_trace};
 ghost use Rattle.firmware.specs.Told.{row_to, version, said_to, told_of, held_of, finding_to, standing_to, line_to, brought_of, brought_to, answers_in, pair_to};
 
 use answers::Answer;
@@ -661,7 +661,7 @@ pub extern "C" fn yendrolf_bridge_pair(c: &CounterWords, q: &QueueWords, from: u
 // Nothing read yet.
 #[unsafe(no_mangle)]
 pub extern "C" fn yendrolf_start_trace() -> Trace
-    ensures { result ≡ startedTrace }
+    ensures { result ≡ started_trace }
 {
     replaying::start()
 }
@@ -675,8 +675,8 @@ pub extern "C" fn yendrolf_bridge_feed(
     trace: Trace,
     chunk: &[u8],
 ) -> Trace
-    ensures { fedTrace (bridge c.new q.new) w.new result
-        ≡ feedingTrace (bridge c.old q.old) w.old trace chunk.now }
+    ensures { fed_trace (bridge c.new q.new) w.new result
+        ≡ feeding_trace (bridge c.old q.old) w.old trace chunk.now }
 {
     replaying::feed(c, q, w, trace, chunk)
 }
@@ -689,7 +689,7 @@ pub extern "C" fn yendrolf_bridge_finish(
     trace: Trace,
     text: &mut [u8],
 ) -> Told
-    ensures { outcome (said_to result) text.new ≡ finishedTrace (bridge c.now q.now) trace text.old }
+    ensures { outcome (said_to result) text.new ≡ finished_trace (bridge c.now q.now) trace text.old }
 {
     in_c(replaying::finish(c, q, trace, text))
 }

@@ -7,7 +7,7 @@ ghost use Rattle.answers.specs.Answers.{said_of};
 ghost use Rattle.words.specs.First.{lowest};
 ghost use Rattle.places.specs.Place.{shares_bit, end_in, end_to, bytes_for};
 ghost use Rattle.answers.specs.Answers.{at};
-ghost use Rattle.judge.specs.Judge.{number_at, shortest as shortestOf, marked, unknown, repeated, not_above, uneven, overlaps, wrong_transport, judge_over, in_slices};
+ghost use Rattle.judge.specs.Judge.{number_at, shortest as shortest_of, marked, unknown, repeated, not_above, uneven, overlaps, wrong_transport, judge_over, in_slices};
 ghost use Rattle.judge.specs.Walk.{rule_at, Wide, Passed, broken_by, crossing, broken};
 
 use answers::Judgement;
@@ -42,7 +42,7 @@ fn larger(a: u64, b: u64) -> u64
 
 // How many positions all three slices have.
 fn shortest(spns: &[u32], starts: &[u32], widths: &[u32]) -> usize
-    ensures { result ≡ shortestOf spns.now starts.now widths.now }
+    ensures { result ≡ shortest_of spns.now starts.now widths.now }
 {
     smaller(spns.len(), smaller(starts.len(), widths.len()))
 }
@@ -68,7 +68,7 @@ fn is_missing(long: usize, widths: &[u32], i: u8) -> bool
 
 // The lowest position that is missing, or 0.
 fn lowest_missing(n: u8, spns: &[u32], starts: &[u32], widths: &[u32]) -> u8
-    ensures { result ≡ lowest (marked (shortestOf spns.now starts.now widths.now) widths.now) n }
+    ensures { result ≡ lowest (marked (shortest_of spns.now starts.now widths.now) widths.now) n }
 {
     let long = shortest(spns, starts, widths);
     let mut there = 0;
@@ -223,7 +223,7 @@ fn last_word(transport: bool, end: u64) -> Judgement
 
 // The judgement of n parameters that are all there and known, rule by rule.
 fn of_known(n: u8, transport: bool, spns: &[u32], starts: &[u32], widths: &[u32]) -> Judgement
-    requires { (lowest (marked (shortestOf spns.now starts.now widths.now) widths.now) n ≡ 0) × (lowest (unknown (number_at widths.now)) n ≡ 0) }
+    requires { (lowest (marked (shortest_of spns.now starts.now widths.now) widths.now) n ≡ 0) × (lowest (unknown (number_at widths.now)) n ≡ 0) }
     ensures { said_of result ≡ judge_over n transport (in_slices spns.now starts.now widths.now) }
 {
     let repeated = lowest_by(Rule::Repeated, n, spns, starts, widths);

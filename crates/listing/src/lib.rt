@@ -3,7 +3,7 @@
 #![tactic(auto)]
 
 ghost use Rattle.std.specs.Prelude.{◌≡◌};
-ghost use Rattle.answers.specs.Answers.{at as judgedAt, outcome, in_numbers};
+ghost use Rattle.answers.specs.Answers.{at as judged_at, outcome, in_numbers};
 ghost use Rattle.text.specs.Text.{page, put_all};
 ghost use Rattle.lookup.specs.View.{map_in, edition_in};
 ghost use Rattle.lookup.specs.Next.{held_keys};
@@ -22,7 +22,7 @@ pub const PAGE: usize = 512;
 
 // Lays the line of a key.
 fn put_line(out: &mut [u8], at: usize, key: Key, n: u8, judged: u8, position: u8) -> usize
-    ensures { page result out.new ≡ put_all (page at out.old) (line_of key n (judgedAt judged position)) }
+    ensures { page result out.new ≡ put_all (page at out.old) (line_of key n (judged_at judged position)) }
 {
     let at = text::put_number(out, at, key.source as u64, b" ");
     let at = text::put_number(out, at, key.destination as u64, b" ");

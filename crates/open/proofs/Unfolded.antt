@@ -11,7 +11,7 @@ use native.Mathlib.Nat.{add-zero, min-eq_left, min-eq_right, min-le_right, le_of
 use native.Mathlib.Decide.{dec_lt}
 use native.Mathlib.Omega.{arith}
 use borrow.Author.Tests.{le-leb, lt-leb, ne_eqb}
-use Rattle.answers.specs.Answers.{Judged, at as judgedAt}
+use Rattle.answers.specs.Answers.{Judged, at as judged_at}
 use Rattle.message.specs.declared.Place.{Place}
 use Rattle.words.specs.Lists.{tabulate}
 use Rattle.words.specs.First.{any}
@@ -146,7 +146,7 @@ row-judged row a b c spns starts widths n transport j long en et es ess ew e =
     ∙ judged-same h.n _ (params_in row) (slices_are row a b c h.n long) h.transport
 
 -- and the judgement of its map, by its state
-pub by_state : (row : List ℕ) (w j : Judged) → w ≡ judge (width_row row) (row_as row) → j ≡ cond (eqb (state_word row) 1) w (judgedAt 1 0) → j ≡ judge (width_row row) (row_map row)
+pub by_state : (row : List ℕ) (w j : Judged) → w ≡ judge (width_row row) (row_as row) → j ≡ cond (eqb (state_word row) 1) w (judged_at 1 0) → j ≡ judge (width_row row) (row_map row)
 unfolding row_map
 by_state row w j e q = q ∙ test (eqb (state_word row) 1) (λ t. rw t e) (λ f. rw f)
 

@@ -5,7 +5,7 @@
 ghost use Rattle.std.specs.Prelude.{◌≡◌, cond, ◌≤◌, eqb, length};
 ghost use Rattle.words.specs.First.{any};
 ghost use Rattle.answers.specs.Answers.{said_of, at};
-ghost use Rattle.judge.specs.Judge.{spn_in, start_in, mark, judge as judgementOf};
+ghost use Rattle.judge.specs.Judge.{spn_in, start_in, mark, judge as judge_of};
 ghost use Rattle.keyrow.specs.Row.{row_words, positions, key_of};
 ghost use Rattle.keyrow.specs.View.{row_map, row_as};
 ghost use Rattle.open.specs.Open.{map_as, width_row, width_for, marked_width, reach, opened_in, opened_by};
@@ -106,7 +106,7 @@ fn unfold_row(row: &[u64], n: usize, spns: &mut [u32], starts: &mut [u32], width
 // Unfolds a row as far as its n asks, and judges what it holds, in conflict or not. A position past the 64 is missing.
 fn judge_row(row: &[u64], spns: &mut [u32], starts: &mut [u32], widths: &mut [u32]) -> Judgement
     requires { (length row.now ≡ row_words) × (length spns.old ≡ positions) × (length starts.old ≡ positions) × (length widths.old ≡ positions) }
-    ensures { (said_of result ≡ judgementOf (width_row row.now) (row_as row.now)) × (spns.new ≡ unfolded_in spn_in row.now spns.old)
+    ensures { (said_of result ≡ judge_of (width_row row.now) (row_as row.now)) × (spns.new ≡ unfolded_in spn_in row.now spns.old)
         × (starts.new ≡ unfolded_in start_in row.now starts.old)
         × (widths.new ≡ unfolded_in marked_width row.now widths.old) }
 {

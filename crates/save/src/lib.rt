@@ -9,7 +9,7 @@ ghost use Rattle.text.specs.Text.{page, put_all};
 ghost use Rattle.keyrow.specs.Row.{row_words, form_word};
 ghost use Rattle.keyrow.specs.View.{head_of, place_of, place_in};
 ghost use Rattle.lookup.specs.View.{map_in, edition_in};
-ghost use Rattle.image.specs.Write.{place_or, body_of, edition_byte, full_row, row_size, row_bytes, behind as behindOf, bodies_of, is_saved, saved_keys, image_in, image_of, saved_into};
+ghost use Rattle.image.specs.Write.{place_or, body_of, edition_byte, full_row, row_size, row_bytes, behind as behind_of, bodies_of, is_saved, saved_keys, image_in, image_of, saved_into};
 ghost use Rattle.save.specs.Pieces.{body_pieces, map_pieces, marks_of, row_pieces, bodies_pieces, image_pieces};
 
 use answers::Answer;
@@ -39,7 +39,7 @@ pub fn row_size(form: u8) -> usize
 
 // The first byte behind so many rows.
 pub fn behind(form: u8, count: u8) -> usize
-    ensures { (result ≡ behindOf form count) × (result ≤ 2042) }
+    ensures { (result ≡ behind_of form count) × (result ≤ 2042) }
 {
     if form == OLD {
         return 2 + 7 * count as usize;

@@ -12,7 +12,7 @@ use Rattle.message.specs.declared.Key.{Key}
 use Rattle.lookup.specs.View.{map_in}
 use Rattle.lookup.specs.Next.{key_found}
 use Rattle.image.specs.Write.{bodies_of}
-use Rattle.save.specs.Pieces.{marks as marksFrom, marks_of}
+use Rattle.save.specs.Pieces.{marks as marks_from, marks_of}
 use Rattle.save.proofs.Walked.{rest, count_turn, length_turn, rest_none, rest_done, count_end, length_end, mark-laid, zeros_left, marks_none, marks_end}
 use borrow.Author.Rules.{rules}
 use Rattle.save.proofs.choose.Goals as goal
@@ -22,7 +22,7 @@ loop-i-init c =
     let t = c.args.t.now in
     let e = ap (λ (k : Option Key). length (rest t 16 k)) c.first_key-next.ensures in
     let d = ap (λ (k : Option Key). length (bodies_of (map_in t) (rest t 16 k))) c.first_key-next.ensures in
-    (omega arith, refl, omega arith, omega (arith, e), ap (marksFrom 16 t) c.first_key-next.ensures, refl, omega arith, omega (arith, d))
+    (omega arith, refl, omega arith, omega (arith, e), ap (marks_from 16 t) c.first_key-next.ensures, refl, omega arith, omega (arith, d))
 
 pub returns-in-NoMore : goal.returns-in-NoMore
 returns-in-NoMore c =
