@@ -174,7 +174,7 @@ pub learn_marks : (t : List ℕ) → length t ≡ table_words → (id len : ℕ)
 unfolding learnt
 learn_marks t long id len d m e q = rw e (refusals.ten_marks t long m (rw e at q))
 
--- and 10 is given to well_formed messages alone
+-- and 10 is given to well-formed messages alone
 pub ten_heard : (t : List ℕ) (id len : ℕ) (d : List ℕ) → (learnt t id len d).answer.number ≡ 10 → (heard id len d).message ≡ none → ⊥
 unfolding learnt
 ten_heard t id len d q e =
@@ -293,7 +293,7 @@ module _ (width_of : ℕ → ℕ) (m : Map) where
     beside = read_states width_of m payload room states e;
   }
 
--- ==== Demand 3: "every answer about a key is the one 01 defines from the collection of different well_formed messages naming it since its last forget", and since Req 10 "the
+-- ==== Demand 3: "every answer about a key is the one 01 defines from the collection of different well-formed messages naming it since its last forget", and since Req 10 "the
 -- messages since the last forget and the edition last set since then"
 
 -- every answer that the edition and the map of a key decide
@@ -333,7 +333,7 @@ module _ (calls : List Call) (bytes : AllCarried calls) where
   pub from_the_set : (k : Key) → InBytes k → Answers (known_in (run calls) k) (known_by (kept (happened calls)) k)
   from_the_set k b = same-answers _ _ (alike (set_is k b) (map_is k b))
 
-  -- "if at no moment more than 16 keys have well_formed messages since their last forget": from all of them
+  -- "if at no moment more than 16 keys have well-formed messages since their last forget": from all of them
   module _ (few : Few (happened calls)) where
     demand_map : (k : Key) → InBytes k → map_in (run calls) k ≡ map_of (since (happened calls) k)
     demand_map k b = let (w, i) = run_is calls bytes in rw w (theorem.demand_map (happened calls) i few k b)
@@ -373,7 +373,7 @@ module _ (calls others : List Call) (bytes : AllCarried calls) (bytes' : AllCarr
       (alike (demand_edition calls bytes few k b ∙ edition ∙ sym (demand_edition others bytes' few' k b))
       (demand_map calls bytes few k b ∙ same_map (since (happened calls) k) (since (happened others) k) same ∙ sym (demand_map others bytes' few' k b)))
 
-  -- and to a frame: a refusal 1 to 8 from the frame alone; a well_formed message by the collection of its key
+  -- and to a frame: a refusal 1 to 8 from the frame alone; a well-formed message by the collection of its key
   pub same_learn : (id len : ℕ) (d : List ℕ) → Carried (Frame id len d)
       → ((m : Message) → (heard id len d).message ≡ some m → Few (Learn m ∷ happened calls) × Few (Learn m ∷ happened others) × SameMembers (since (happened calls) m.key) (since (happened others) m.key))
       → (learnt (run calls) id len d).answer ≡ (learnt (run others) id len d).answer

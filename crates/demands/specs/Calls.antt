@@ -47,7 +47,7 @@ run (c ∷ cs) = words_after (run cs) c
 
 -- ---- the events
 
--- a frame: its message, where it is well_formed, is learned
+-- a frame: its message, where it is well-formed, is learned
 abbrev pub framed : List Event → ℕ → ℕ → List ℕ → List Event
 framed h id len d = learns (heard id len d).message ++ h
 

@@ -6,12 +6,12 @@ use Rattle.message.specs.declared.Message.{Message}
 use Rattle.message.specs.Message.{heard}
 use Rattle.history.specs.History.{Event, Learn, answer}
 
--- a well_formed message is learned; a refused frame is no event
+-- a well-formed message is learned; a refused frame is no event
 abbrev pub learns : Option Message → List Event
 learns none = []
 learns (some m) = Learn m ∷ []
 
--- 01's answer to a frame after a history: 1 to 8 from the frame alone, and 9, 10 or 0 to a well_formed message
+-- 01's answer to a frame after a history: 1 to 8 from the frame alone, and 9, 10 or 0 to a well-formed message
 abbrev pub heard_answer : List Event → ℕ → Option Message → ℕ
 heard_answer h number none = number
 heard_answer h number (some m) = answer h (Learn m)

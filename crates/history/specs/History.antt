@@ -11,7 +11,7 @@ use Rattle.maps.specs.Maps.{same_key, conflict}
 abbrev pub most_keys : ℕ
 most_keys = 16
 
--- a well_formed message came in, a key was forgotten, or an edition was asked for a key (02, Req 10)
+-- a well-formed message came in, a key was forgotten, or an edition was asked for a key (02, Req 10)
 pub data Event : Type 0 where
   Learn : Message → Event
   Forget : Key → Event
@@ -83,7 +83,7 @@ counts h e = not (eqb (answer h e) 9)
 abbrev pub kept : List Event → List Event
 kept h = runs.kept counts h
 
--- "A key's set is the collection of different well_formed messages naming it since its last forget, those answered 9 apart"
+-- "A key's set is the collection of different well-formed messages naming it since its last forget, those answered 9 apart"
 abbrev pub set_of : List Event → Key → List Message
 set_of h k = since (kept h) k
 

@@ -85,7 +85,7 @@ module _ (h : List Event) (ok : AllInWords h) where
   edition-answer k e b =
       event-answer (words_by h) (sane_by h ok).long (Edition k e) (record { key = b; row = tt }) ∙ ap plain (demand.answered (calls_by h ok) (Edition k e))
 
-  -- a well_formed message is answered 9 exactly where its key is new and 16 keys are held now
+  -- a well-formed message is answered 9 exactly where its key is new and 16 keys are held now
   nine_message : (m : Message) → InWords (Learn m) → ((learn_message (words_by h) m).answer.number ≡ 9) ↔ ((set_of h m.key ≡ []) × (key_count (words_by h) ≡ most_keys))
   nine_message m f =
       let e = ap (λ (a : Said). a.number) (event-answer (words_by h) (sane_by h ok).long (Learn m) f) in

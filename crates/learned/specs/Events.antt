@@ -25,7 +25,7 @@ words_from t h = runs.fold (λ u e. (event u e).memory) t h
 abbrev pub words_by : List Event → List ℕ
 words_by h = words_from empty_table h
 
--- ---- what an event carries: the arguments' types say as much of a frame and of a forget (law in-words)
+-- ---- what an event carries: the arguments' types say as much of a frame and of a forget (law in_words)
 
 -- a message's numbers have their place in a row
 abbrev pub Placed : Event → Type 0

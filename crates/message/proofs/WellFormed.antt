@@ -1,4 +1,4 @@
--- What a well_formed message is: exactly when a frame is one, the ranges of its fields, and what it doesn't depend on.
+-- What a well-formed message is: exactly when a frame is one, the ranges of its fields, and what it doesn't depend on.
 -- Assumes nothing.
 use Prim.Native.Nat.{ℕ, ◌+◌, ◌-◌, ◌*◌, ◌/◌, ◌%◌, ◌^◌, ◌≤◌, ◌<◌}
 use mathlib.Core.Path.{◌≡◌, refl, sym, ap, ◌∙◌}
@@ -27,7 +27,7 @@ neither false b e = (refl, e)
 nor : {a b : Bool} → a ≡ false → b ≡ false → (a || b) ≡ false
 nor {a} {b} p q = rw (p, q)
 
--- ---- 01's answers 1 to 8, said as what a well_formed frame is
+-- ---- 01's answers 1 to 8, said as what a well-formed frame is
 
 pub record WellFormed (id len : ℕ) (f : Fields) (w : Wire) : Type 0 where
   pub identifier : id < 2 ^ 29
@@ -100,7 +100,7 @@ module _ (id len : ℕ) (f : Fields) (w : Wire) where
         ),
       )
 
-  -- no test of 1 to 8 applies exactly where the frame is well_formed
+  -- no test of 1 to 8 applies exactly where the frame is well-formed
   pub well_formed : (refusal_of id len f w ≡ 0) ↔ WellFormed id len f w
   well_formed = (λ e. none_then (early e) (none_applies (data_tests w) tt (sym (passed (frame_tests id len f) tt (clear e) _) ∙ e)), λ h. back (then_none h))
     where
@@ -171,7 +171,7 @@ same_but_priority i j e =
 -- ---- the answer to a frame
 
 module _ (id len : ℕ) (d : List ℕ) where
-  -- answer 0 exactly where the frame is well_formed
+  -- answer 0 exactly where the frame is well-formed
   pub heard_exactly : ((heard id len d).number ≡ 0) ↔ WellFormed id len (fields_of id) (wire_of d)
   unfolding heard
   heard_exactly = well_formed id len (fields_of id) (wire_of d)

@@ -31,7 +31,7 @@ pub struct Place {
     pub start: u32,
 }
 
-// A well_formed message, its fields grouped by how they are compared.
+// A well-formed message, its fields grouped by how they are compared.
 #[derive(Clone, Copy)]
 pub struct Message {
     pub key: Key,
@@ -169,7 +169,7 @@ pub fn less(x: u32, y: u32) -> u32
     if x < y { 0 } else { x - y }
 }
 
-// What is kept of a well_formed message: first-only is not, priority is not.
+// What is kept of a well-formed message: first-only is not, priority is not.
 pub fn kept(f: Fields, w: Wire) -> Message
     ensures { result ≡ message_of f w }
 {

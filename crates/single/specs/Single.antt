@@ -1,4 +1,4 @@
--- A parameter's number in a payload of eight bytes that is held as one number (01, "Payload bits"): payload bit p is then bit p of that number (law same-bits).
+-- A parameter's number in a payload of eight bytes that is held as one number (01, "Payload bits"): payload bit p is then bit p of that number (law same_bits).
 -- Assumes nothing.
 use Rattle.std.specs.Prelude.{Bool, cond, not, ◌&&◌, ◌||◌, List, ◌++◌, ℕ, ◌/◌, ◌%◌, ◌^◌, leb, ltb, length, get_or, drop}
 use Rattle.words.specs.First.{any}

@@ -9,6 +9,6 @@ use Rattle.keyrow.specs.Row.{row_words}
 abbrev pub put_row : List ℕ → ℕ → List ℕ → List ℕ
 put_row t i r = put_at row_words t i r
 
--- a message's start has its place in a cell: every well_formed one's has
+-- a message's start has its place in a cell: every well-formed one's has
 abbrev pub Storable : Message → Type 0
 Storable m = m.place.start < 2 ^ 16

@@ -19,7 +19,7 @@ empty_table = replicate table_words 0
 abbrev pub in_row : List ℕ → ℕ → Outcome → Outcome
 in_row t i o = outcome o.answer (put_row t i o.memory)
 
--- a well_formed message: into its key's row; a new key into the lowest free row; "key new and 16 keys held" is 9
+-- a well-formed message: into its key's row; a new key into the lowest free row; "key new and 16 keys held" is 9
 unfoldable pub learn_message : List ℕ → Message → Outcome
 learn_message t m =
     cond (ltb (slot_of t (key_number m.key)) most_keys)

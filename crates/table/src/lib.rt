@@ -41,7 +41,7 @@ fn new_at(t: &mut [u64], i: usize, key: u64, form: u64, p: u8, cell: u64)
     keyrow::new_row(&mut t[a..e], key, form, p, cell);
 }
 
-// One well_formed message: into its key's row, or into the lowest free one, or 9. One row is touched.
+// One well-formed message: into its key's row, or into the lowest free one, or 9. One row is touched.
 fn learn_message(t: &mut Table, m: Message) -> u8
     requires { Storable m }
     ensures { outcome (plain result) t.new ≡ learn_message t.old m }
