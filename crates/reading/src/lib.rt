@@ -2,6 +2,8 @@
 // the status that they end with. No promise can say which bytes came.
 #![tactic(auto)]
 
+ghost use Rattle.std.specs.Prelude.{◌≡◌, ◌<◌, if◌then◌else◌, MatchResult};
+ghost use Rattle.std.specs.Process.{exit_status};
 ghost use Rattle.io.specs.Counts.{IsPrefixLen};
 ghost use Rattle.feeding.specs.Feed.{started};
 ghost use Rattle.reading.specs.Bytes.{SomeBytes};
@@ -174,7 +176,9 @@ pub fn has_argument<R: Env>(rt: &R, i: usize) -> bool {
 const READER_GONE: u8 = 141;
 
 // The exit status: 0 where everything was read and everything written, and else 1.
-pub fn done(all: bool) -> ExitCode {
+pub fn done(all: bool) -> ExitCode
+    ensures { exit_status result ≡ (if all then 0 else 1) }
+{
     if all {
         ExitCode::SUCCESS
     } else {
@@ -183,7 +187,9 @@ pub fn done(all: bool) -> ExitCode {
 }
 
 // The same of a program that wrote to standard output; where it could not, a line on standard error says `what` and why, but where the reader of the output is gone, no line does.
-pub fn ended<R: Eprint>(rt: &R, whole: bool, written: Result<()>, what: &[u8]) -> ExitCode {
+pub fn ended<R: Eprint>(rt: &R, whole: bool, written: Result<()>, what: &[u8]) -> ExitCode
+    ensures { MatchResult written (λ _. exit_status result ≡ (if whole then 0 else 1)) (λ _. 0 < exit_status result) }
+{
     match written {
         Ok(()) => done(whole),
         Err(why) => {
