@@ -20,6 +20,7 @@ pub enum Judgement {
     Transport,
 }
 
+// Kept: a number with what it carries, and no Result: document 01 names this form, a judgement nested in the answer struct, and the law same_answer is of this struct.
 // The detail is 0 unless 01 says another; where the number is 12, and for 0 of judging, the judgement is the detail.
 #[derive(Clone, Copy)]
 pub struct Answer {
@@ -29,6 +30,7 @@ pub struct Answer {
 }
 
 // The number of a judgement in 01 and 02.
+// Kept: this and the next by their names and no From: docs/PROMISES.md has both, and one enum has two numbers.
 pub fn number_of(j: Judgement) -> u8
     ensures { result ≡ (said_of j).number }
 {

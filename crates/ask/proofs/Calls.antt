@@ -4,12 +4,12 @@ use mathlib.Core.Path.{◌≡◌, refl, sym, ap, ◌∙◌}
 use mathlib.Core.Bool.{Bool, true, false, cond, not, ◌&&◌, ◌||◌, or-true}
 use mathlib.Core.List.{List, ◌++◌}
 use lib.Dec.{eqb, ltb}
-use lib.ListN.{length, take, drop, length-take}
-use native.Mathlib.Nat.{min-le_right}
+use lib.ListN.{length, take, drop}
 use native.Mathlib.Omega.{arith}
-use borrow.Author.Tests.{eq-eqb, ne_eqb, ltb-false, lt-ltb, le-ltb, not-false}
+use borrow.Author.Tests.{eq-eqb, ne_eqb, ltb-false, lt-ltb, le-ltb}
 use Rattle.answers.specs.Answers.{Said, at, plain, done, unusable, outcome}
-use Rattle.payload.specs.declared.Laying.{Laying}
+use Rattle.payload.specs.declared.Unlaid.{Unlaid}
+use Rattle.std.specs.Prelude.{Result}
 use Rattle.payload.specs.Calls.{Left, left, too_wide_in, packing, reading}
 use Rattle.payload.proofs.Laws.{read_length}
 use Rattle.states.specs.States.{states_over}
@@ -18,11 +18,10 @@ use Rattle.maps.specs.Maps.{Map, Nothing, Conflict, Held}
 use Rattle.judge.specs.Judge.{start_in, width_in, judge, usable, count_of, params_of, starts_of, widths_of, length_of}
 use Rattle.judge.proofs.Judged.{lists_length, usable_placed}
 use Rattle.answers.specs.Tests.{Test, in_order}
-use Rattle.answers.proofs.Tests.{None}
 use Rattle.words.proofs.Tests.{test}
 use Rattle.open.specs.Open.{is_held, judged_by}
 use Rattle.ask.specs.Ask.{key_tests, pack_tests, pack_done, packed_by, reads, read_tests, numbers_in, read_done, read_by, not_found, position_of, find_tests, found_by, nowhere, stands_by}
-use Rattle.ask.specs.Parts.{ready_by, InHand, said_by, as_outcome, with_states, read_with}
+use Rattle.ask.specs.Parts.{ready_by, Refused, InHand, said_by, as_outcome, with_states, read_with}
 
 module _ (width_of : ℕ → ℕ) (m : Map) where
   -- usable is held with judgement 0
@@ -44,18 +43,7 @@ module _ (width_of : ℕ → ℕ) (m : Map) where
       go true e = refl
       go false e = e
 
-  -- the two tests that pack, read and find begin with: neither applies to a usable map
-  pub key_passed : usable width_of m ≡ true → None (key_tests width_of m)
-  key_passed u = (ap not (usable-held u), (ap not u, tt))
-
-  pub passed_key : None (key_tests width_of m) → usable width_of m ≡ true
-  passed_key n = not-false _ n.1.0
-
-  -- the first alone applies to a key that is not held
-  pub key_unheld : is_held m ≡ false → not (is_held m) ≡ true
-  key_unheld e = ap not e
-
-  -- the second to a map that is held with another judgement than 0
+  -- of the two tests that pack, read and find begin with, the second alone applies to a map that is held with another judgement than 0
   pub key_bad : is_held m ≡ true → ((judge width_of m).number ≡ 0 → ⊥) → (not (is_held m) ≡ false) × (not (usable width_of m) ≡ true)
   key_bad h n =
       let z : usable width_of m ≡ false = usable-is ∙ rw (h, ne_eqb (judge width_of m).number 0 n) in (ap not h, ap not z)
@@ -63,18 +51,21 @@ module _ (width_of : ℕ → ℕ) (m : Map) where
 -- ---- by what judging answered
 
 -- the three cases of `ready`
-pub ready_11 : (a : Said) → (a.number ≡ 0 → ⊥) → a ≡ ready_by a
+pub ready_11 : (a : Said) → (a.number ≡ 0 → ⊥) → Refused a (ready_by a)
 unfolding ready_by
-ready_11 a n = rw (ne_eqb a.number 0 n)
+ready_11 a n = record { same = rw (ne_eqb a.number 0 n); refuses = n }
 
-module _ (a r : Said) (n : ℕ) (z : a.number ≡ 0) (e : n ≡ a.judgement) where
-  pub ready_12 : (n ≡ 0 → ⊥) → r ≡ unusable (at a.judgement a.position) → r ≡ ready_by a
+module _ (a : Said) (n : ℕ) (z : a.number ≡ 0) (e : n ≡ a.judgement) where
+  pub ready_12 : (r : Said) → (n ≡ 0 → ⊥) → r ≡ unusable (at a.judgement a.position) → Refused r (ready_by a)
   unfolding ready_by
-  ready_12 h f = rw (eq-eqb a.number 0 z, ne_eqb a.judgement 0 (λ q. h (e ∙ q))) f
+  ready_12 r h f = record {
+    same = rw (eq-eqb a.number 0 z, ne_eqb a.judgement 0 (λ q. h (e ∙ q))) f;
+    refuses = λ q. let w = ap (λ (x : Said). x.number) f in omega (arith, w, q);
+  }
 
-  pub ready_0 : n ≡ 0 → r ≡ plain 0 → r ≡ ready_by a
+  pub ready_0 : n ≡ 0 → ready_by a ≡ plain 0
   unfolding ready_by
-  ready_0 h f = rw (eq-eqb a.number 0 z, eq-eqb a.judgement 0 (sym e ∙ h)) f
+  ready_0 h = rw (eq-eqb a.number 0 z, eq-eqb a.judgement 0 (sym e ∙ h))
 
 module _ (width_of : ℕ → ℕ) (m : Map) where
   -- the tests 11 and 12 are those of the calls
@@ -94,27 +85,29 @@ module _ (width_of : ℕ → ℕ) (m : Map) where
       (λ h. test (eqb (judge width_of m).number 0) (λ z. rw (usable-is width_of m, h, z)) (λ f. let q : 12 ≡ 0 = rw (h, f) at e in absurd (omega (arith, q))))
       (λ h. let q : 11 ≡ 0 = rw h at e in absurd (omega (arith, q)))
 
-  -- and then it is plain
-  pub ready_plain : usable width_of m ≡ true → ready_by (judged_by width_of m) ≡ plain 0
-  unfolding ready_by judged_by
-  ready_plain u = let h = usable-held width_of m u in rw (h, usable-zero h)
-    where
-      usable-zero : is_held m ≡ true → eqb (judge width_of m).number 0 ≡ true
-      usable-zero h = sym (rw h at (usable-is width_of m)) ∙ u
+  -- by the answer of judging
+  pub refused_is : (a : Said) → a ≡ judged_by width_of m → (r : Said) → Refused r (ready_by a) → Refused r (ready_by (judged_by width_of m))
+  refused_is a e r h = record { same = h.same ∙ ap ready_by e; refuses = h.refuses }
 
-  module _ (a : Said) (e : a ≡ ready_by (judged_by width_of m)) (n : a.number ≡ 0 → ⊥) where
+  pub ready_good : (a : Said) → a ≡ judged_by width_of m → ready_by a ≡ plain 0 → usable width_of m ≡ true
+  ready_good a e z = ready_usable (ap (λ (s : Said). (ready_by s).number) (sym e) ∙ ap (λ (s : Said). s.number) z)
+
+  module _ (a : Said) (h : Refused a (ready_by (judged_by width_of m))) where
+    n : (ready_by (judged_by width_of m)).number ≡ 0 → ⊥
+    n = rw h.same at h.refuses
+
     pub pack_unready : (numbers out : List ℕ) → outcome a out ≡ packed_by width_of m numbers out
     unfolding packed_by
-    pack_unready numbers out = rw e (ready_is (λ x. outcome x out) (pack_done width_of m numbers out) (rw e at n) (pack_tests width_of m numbers out))
+    pack_unready numbers out = rw h.same (ready_is (λ x. outcome x out) (pack_done width_of m numbers out) n (pack_tests width_of m numbers out))
 
     pub read_unready : (payload room states : List ℕ) → reads a room states ≡ read_by width_of m payload room states
     unfolding read_by
     read_unready payload room states =
-        rw e (ready_is (λ x. reads x room states) (read_done width_of m payload room states) (rw e at n) (read_tests width_of m payload room states))
+        rw h.same (ready_is (λ x. reads x room states) (read_done width_of m payload room states) n (read_tests width_of m payload room states))
 
     pub find_unready : (spn : ℕ) → not_found a ≡ found_by width_of m spn
     unfolding found_by
-    find_unready spn = rw e (ready_is not_found _ (rw e at n) (find_tests width_of m spn))
+    find_unready spn = rw h.same (ready_is not_found _ n (find_tests width_of m spn))
 
 -- a key that is not held has nothing at any position
 pub stands_none : (width_of : ℕ → ℕ) (m : Map) (a : Said) → is_held m ≡ false → a ≡ plain 11 → (p : ℕ) → nowhere a ≡ stands_by width_of m p
@@ -151,7 +144,7 @@ module _ (starts widths payload room states : List ℕ) where
   unfolding read_with
   with_short s a e = rw (lt-ltb (length states) (length starts) s, e)
 
-  module _ (s : length starts ≤ length states) (laying : Laying) (a : Said) (e : a ≡ said_by laying) (left_in : List ℕ) (f : left laying left_in ≡ reading starts widths payload room) where
+  module _ (s : length starts ≤ length states) (laying : Result ℕ Unlaid) (a : Said) (e : a ≡ said_by laying) (left_in : List ℕ) (f : left laying left_in ≡ reading starts widths payload room) where
     told : outcome a left_in ≡ as_outcome (reading starts widths payload room)
     told = ap (λ (x : Said). outcome x left_in) e ∙ ap as_outcome f
 
@@ -209,39 +202,27 @@ module _ (width_of : ℕ → ℕ) (most : (x : ℕ) → width_of x ≤ 32) (m : 
       test (ltb (length states) (count_of m)) (λ s. rw ((lists_length width_of m).1, s) (no_states payload room states s))
       (λ s. rw ((lists_length width_of m).1, s) (ap (with_states (widths_of width_of m) states) (reading-is payload room) ∙ told-states payload room states s))
 
--- a map in hand that passed the tests 11 and 12: it is usable, and payload's calls go by its lists
-module _ (width_of : ℕ → ℕ) (m : Map) (a : Said) (n : ℕ) (starts widths : List ℕ) (h : InHand width_of m a n starts widths) (z : a.number ≡ 0) where
-  good : usable width_of m ≡ true
-  good = ready_usable width_of m (sym (ap (λ (x : Said). x.number) h.said) ∙ z)
-
-  room : (xs ys : List ℕ) → take n xs ≡ ys → length ys ≡ count_of m → n ≤ length xs
-  room xs ys e l = omega (arith, min-le_right n (length xs), length-take n xs, ap length e, l, (h.count good).0)
-
-  pub starts-room : n ≤ length starts
-  starts-room = room starts _ (h.lists good).0 (lists_length width_of m).1
-
-  pub widths-room : n ≤ length widths
-  widths-room = room widths _ (h.lists good).1 (lists_length width_of m).2
-
+-- a usable map in hand: payload's calls go by its lists
+module _ (width_of : ℕ → ℕ) (m : Map) (n : ℕ) (starts widths : List ℕ) (h : InHand width_of m n starts widths) where
   module _ (most : (x : ℕ) → width_of x ≤ 32) where
     few : count_of m ≤ 64
-    few = omega (arith, (h.count good).0, (h.count good).1)
+    few = omega (arith, h.count, h.few)
 
-    pub pack_told : (laying : Laying) (b : Said) → b ≡ said_by laying → (numbers out held : List ℕ)
+    pub pack_told : (laying : Result ℕ Unlaid) (b : Said) → b ≡ said_by laying → (numbers out held : List ℕ)
         → left laying out ≡ packing (take n starts) (take n widths) numbers held → outcome b out ≡ packed_by width_of m numbers held
     pack_told laying b e numbers out held f =
-        ap (λ (x : Said). outcome x out) e ∙ ap as_outcome f ∙ rw ((h.lists good).0, (h.lists good).1) (packing-is width_of most m good few numbers held)
+        ap (λ (x : Said). outcome x out) e ∙ ap as_outcome f ∙ rw (h.starts-are, h.widths-are) (packing-is width_of most m h.good few numbers held)
 
     pub read_told : (payload room states : List ℕ) → read_with (take n starts) (take n widths) payload room states ≡ read_by width_of m payload room states
-    read_told payload room states = rw ((h.lists good).0, (h.lists good).1) (with_is width_of most m good few payload room states)
+    read_told payload room states = rw (h.starts-are, h.widths-are) (with_is width_of most m h.good few payload room states)
 
 -- finding in a usable map
-module _ (width_of : ℕ → ℕ) (m : Map) (u : usable width_of m ≡ true) (spn : ℕ) (a : Said) (p : ℕ) (its : p ≡ position_of width_of m spn) where
+module _ (width_of : ℕ → ℕ) (m : Map) (u : usable width_of m ≡ true) (spn : ℕ) (a : Said) (p : ℕ) (its : position_of width_of m spn ≡ p) where
   pub find_absent : p ≡ 0 → a ≡ plain 18 → not_found a ≡ found_by width_of m spn
   unfolding found_by
-  find_absent z e = rw (e, usable-held width_of m u, u, eq-eqb (position_of width_of m spn) 0 (sym its ∙ z))
+  find_absent z e = rw (e, usable-held width_of m u, u, eq-eqb (position_of width_of m spn) 0 (its ∙ z))
 
   pub find_here : (p ≡ 0 → ⊥) → a ≡ plain 0 → (start width : ℕ) → start ≡ start_in (params_of width_of m p) → width ≡ width_in (params_of width_of m p)
       → record { answer = a; position = p; start = start; width = width } ≡ found_by width_of m spn
   unfolding found_by
-  find_here n e start width f g = rw (e, f, g, its, usable-held width_of m u, u, ne_eqb (position_of width_of m spn) 0 (λ z. n (its ∙ z)))
+  find_here n e start width f g = rw (e, f, g, usable-held width_of m u, u, ne_eqb (position_of width_of m spn) 0 (λ z. n (sym its ∙ z)), its)

@@ -2,13 +2,13 @@
 use mathlib.Core.Path.{◌≡◌, refl, sym, ap, ap₂, ◌∙◌}
 use mathlib.Core.List.{List}
 use mathlib.Core.Logic.{⊎_elim}
-use Prim.Native.Nat.{ℕ, zero, suc, ◌+◌, ◌-◌, ◌*◌, ◌/◌, ◌%◌, ◌^◌, ◌<◌, min, max}
-use native.Mathlib.Nat.{mod-lt, div-eq_of_lt, div-one, zero-mul, zero-add, add-zero, add-suc, pow-succ', mod-eq_of_lt, mod-one, zero-lt-suc, not-suc-le-zero, le_of_suc-le-suc, add_comm, add-mul, mul_assoc, add_assoc, eq-or-lt_of_le}
+use Prim.Native.Nat.{ℕ, zero, suc, ◌+◌, ◌-◌, ◌*◌, ◌/◌, ◌%◌, ◌^◌, ◌<◌}
+use native.Mathlib.Nat.{div-one, zero-mul, zero-add, add-zero, add-suc, pow-succ', mod-eq_of_lt, mod-one, zero-lt-suc, not-suc-le-zero, le_of_suc-le-suc, add_comm, add-mul, mul_assoc, add_assoc, eq-or-lt_of_le}
 use native.Mathlib.Numerals.{one-add}
 use native.Mathlib.Omega.{arith}
 use lib.ListN.{length, get_or}
-use lib.Bits.{bit_and, bit_or, bit_xor, differ, and_shr, or_shr, xor_shr, and_step, or_step, xor_step}
-use lib.Pow.{pow-add, shr-shr, high, low, field, mod-mod-pow, mod-pow-add, ones_split, ones_lt}
+use Rattle.std.proofs.lemmas.Nat.Bits.{bit_at-lt, bit_at_above, bit_at_ones}
+use lib.Pow.{pow-add, shr-shr, high, low, field, mod-mod-pow, mod-pow-add}
 use lib.Arith.{digits_lt}
 use lib.Seq.{ext_get_or}
 use Rattle.words.proofs.Lists.{length-tabulate, get_tabulate, tabulate_equal}
@@ -16,7 +16,7 @@ use Rattle.bits.specs.Bits.{bit, bit_at, from_bits, bytes_with}
 
 pub bit_lt : (n i : ℕ) → bit n i < 2
 unfolding bit
-bit_lt n i = mod-lt (n / 2 ^ i) (zero-lt-suc 1)
+bit_lt n i = bit_at-lt n i
 
 -- bits of a quotient and of a remainder by a power of two
 pub bit_shr : (n k i : ℕ) → bit (n / 2 ^ k) i ≡ bit n (k + i)
@@ -40,33 +40,12 @@ bit_high hi k lo i l = sym (bit_shr (hi * 2 ^ k + lo) k i) ∙ ap (λ (x : ℕ).
 -- above a number's bits stand zeros
 pub bit_above : (n i : ℕ) → n < 2 ^ i → bit n i ≡ 0
 unfolding bit
-bit_above n i l = rw (div-eq_of_lt l)
+bit_above n i l = bit_at_above n i i l (omega arith)
 
 -- and a number of w ones has no others below
 pub bit_ones : (w i : ℕ) → i < w → bit (2 ^ w - 1) i ≡ 1
 unfolding bit
-bit_ones w i h = go (w - suc i) (omega arith)
-  where
-    go : (d : ℕ) → d + 1 + i ≡ w → bit (2 ^ w - 1) i ≡ 1
-    go d e = rw (← e, ones_split (d + 1) i, high (2 ^ (d + 1) - 1) i (ones_lt i), ones_split d 1) (low (2 ^ d - 1) 1 (ones_lt 1))
-
--- ---- the bits of `&`, `|` and `^`
-pub bit_and_lem : (a b i : ℕ) → bit (bit_and a b) i ≡ min (bit a i) (bit b i)
-unfolding bit
-bit_and_lem a b i = rw (and_shr a b i, and_step) (low _ 1 (omega (arith, mod-lt (a / 2 ^ i) (zero-lt-suc 1))))
-
-pub bit_or_lem : (a b i : ℕ) → bit (bit_or a b) i ≡ max (bit a i) (bit b i)
-unfolding bit
-bit_or_lem a b i = rw (or_shr a b i, or_step) (low _ 1 (omega (arith, mod-lt (a / 2 ^ i) (zero-lt-suc 1), mod-lt (b / 2 ^ i) (zero-lt-suc 1))))
-
-differ_lt : (x y : ℕ) → x < 2 → y < 2 → differ x y < 2
-differ_lt zero y h l = l
-differ_lt (suc x) zero h l = h
-differ_lt (suc x) (suc y) h l = differ_lt x y (omega arith) (omega arith)
-
-pub bit_xor_lem : (a b i : ℕ) → bit (bit_xor a b) i ≡ differ (bit a i) (bit b i)
-unfolding bit
-bit_xor_lem a b i = rw (xor_shr a b i, xor_step) (low _ 1 (differ_lt _ _ (mod-lt (a / 2 ^ i) (zero-lt-suc 1)) (mod-lt (b / 2 ^ i) (zero-lt-suc 1))))
+bit_ones w i h = bit_at_ones w i h
 
 bit_small : (b : ℕ) → b < 2 → bit b 0 ≡ b
 unfolding bit

@@ -3,43 +3,42 @@ use mathlib.Core.Path.{◌≡◌, refl, sym, ap, ap₂, ◌∙◌}
 use mathlib.Core.Bool.{cond}
 use mathlib.Core.List.{List}
 use Prim.Native.Nat.{ℕ, zero, suc, ◌+◌, ◌-◌, ◌*◌, ◌/◌, ◌%◌, ◌^◌, ◌≤◌, ◌<◌, min, max}
-use native.Mathlib.Nat.{add-zero, one-mul, mod-eq_of_lt, lt_of_lt_of_le}
+use native.Mathlib.Nat.{add-zero, mod-eq_of_lt, lt_of_lt_of_le}
 use native.Mathlib.Decide.{ℕ_discrete, dec_lt}
 use native.Mathlib.Omega.{arith}
 use borrow.Author.Tests.{le-leb, lt-leb, lt-ltb, le-ltb}
-use lib.Bits.{bit_and, bit_or, bit_xor, differ, and_mask}
+use lib.Bits.{bit_and, bit_or, and_mask}
+use mir.Syntax.{w64}
+use Rattle.std.proofs.lemmas.Nat.Bits.{bit_at-lt, bit_at_and, bit_at_or, bit_at_not}
 use lib.Dec.{eqb, ltb}
 use lib.ListN.{length, get_or, set}
-use lib.Pow.{pow_pos, pow-lt, pow_mono, ones_lt, shl_exact, shr-shr}
+use lib.Pow.{pow_pos, pow_mono, ones_lt, shl_exact, shr-shr}
 use lib.Seq.{get_or-set_same, get_or-set_other}
 use Rattle.bits.specs.Bits.{bit, bit_at, from_bits, bit_after, run_at, masked}
-use Rattle.bits.proofs.Bits.{bit_lt, bit-mod, bit_shr, bit_low, bit_high, bit_above, bit_ones, bit_and_lem, bit_or_lem, bit_xor_lem, bit_at_lt, at-bit, from_lt, from-add, from-same, from_of, bit-from}
+use Rattle.bits.proofs.Bits.{bit-mod, bit_shr, bit_low, bit_high, bit_above, bit_ones, bit_at_lt, at-bit, from_lt, from-add, from-same, from_of, bit-from}
 use Rattle.bits.proofs.After.{after-out, after-at}
 
--- ---- a number of k bits by a mask
+-- ---- a number of 64 bits by a mask
 
-pick : (x y m : ℕ) → x < 2 → y < 2 → m < 2 → max (min x (differ m 1)) (min y m) ≡ cond (eqb m 1) y x
+-- below 64 the number of ones is that which was asked for
+pub ones-few : (n r : ℕ) → r ≡ 2 ^ (n % 64) - 1 → n < 64 → r ≡ 2 ^ n - 1
+ones-few n r e h = e ∙ ap (λ (k : ℕ). 2 ^ k - 1) (mod-eq_of_lt h)
+
+pick : (x y m : ℕ) → x < 2 → y < 2 → m < 2 → max (min x (1 - m)) (min y m) ≡ cond (eqb m 1) y x
 pick x y zero h l k = omega arith
 pick x y (suc zero) h l k = omega arith
 pick x y (suc (suc m)) h l k = absurd (omega arith)
 
--- one, shifted: a power of two, of which one less is a mask of ones
-pub one_shifted : (n : ℕ) → n < 64 → (1 * 2 ^ n) % 2 ^ 64 ≡ 2 ^ n
-one_shifted n l = rw one-mul (mod-eq_of_lt (pow-lt l))
-
-pub merged : (k old mask new j : ℕ) → j < k
-    → bit (bit_or (bit_and old (bit_xor mask (2 ^ k - 1))) (bit_and new mask)) j ≡ cond (eqb (bit mask j) 1) (bit new j) (bit old j)
-merged k old mask new j l =
-    rw (bit_or_lem, bit_and_lem old (bit_xor mask (2 ^ k - 1)) j, bit_and_lem new mask j, bit_xor_lem mask (2 ^ k - 1) j, bit_ones k j l)
-    (pick (bit old j) (bit new j) (bit mask j) (bit_lt old j) (bit_lt new j) (bit_lt mask j))
+pub merged : (word mask bits j : ℕ) → mask < 2 ^ 64 → j < 64
+    → bit (bit_or (bit_and word (2 ^ 64 - 1 - mask)) (bit_and bits mask)) j ≡ cond (eqb (bit mask j) 1) (bit bits j) (bit word j)
+unfolding bit
+merged word mask bits j h l =
+    rw (bit_at_or, bit_at_and word (2 ^ 64 - 1 - mask) j, bit_at_and bits mask j, bit_at_not w64 mask j h l)
+    (pick _ _ _ (bit_at-lt word j) (bit_at-lt bits j) (bit_at-lt mask j))
 
 -- what is left of a number above its byte i
 pub byte_less : (x i y : ℕ) → y ≡ x / 2 ^ (8 * i) → y / 256 ≡ x / 2 ^ (8 * (i + 1))
 byte_less x i y e = ap (λ (z : ℕ). z / 256) e ∙ shr-shr x (8 * i) 8 ∙ ap (λ (z : ℕ). x / 2 ^ z) (omega arith)
-
--- a bit of byte i of a number
-byte-bit : (x i j : ℕ) → j < 8 → bit (x / 2 ^ (8 * i) % 2 ^ 8) j ≡ bit x (8 * i + j)
-byte-bit x i j l = bit-mod (x / 2 ^ (8 * i)) 8 j l ∙ bit_shr x (8 * i) j
 
 -- ---- bytes by a mask
 
@@ -62,10 +61,10 @@ module _ (k n mask bits p b : ℕ) where
 pub masked_none : (k mask bits p b : ℕ) → b ≡ masked k 0 mask bits p b
 masked_none k mask bits p b = sym (masked-out k 0 mask bits p b (λ l m. absurd (omega arith)))
 
--- a turn of `put_bytes`: byte k + i is replaced, by the lowest byte of what is left of the mask and of the bits
+-- a turn of `put_bytes`: byte k + i is replaced, by the lowest byte of it and what is left of the mask and of the bits
 module _ (xs : List ℕ) (k i mask bits m new y : ℕ) (b : ℕ → ℕ) (inside : k + i < length xs)
     (before : (p : ℕ) → bit_at xs p ≡ masked k i mask bits p (b p)) (of_mask : m ≡ mask / 2 ^ (8 * i)) (of-bits : new ≡ bits / 2 ^ (8 * i))
-    (merging : (j : ℕ) → j < 8 → bit y j ≡ cond (eqb (bit (m % 256) j) 1) (bit (new % 256) j) (bit (get_or xs (k + i) 0) j)) where
+    (merged : ℕ) (merging : (j : ℕ) → j < 64 → bit merged j ≡ cond (eqb (bit m j) 1) (bit new j) (bit (get_or xs (k + i) 0) j)) (low : y ≡ merged % 256) where
   pub put_turn : (p : ℕ) → bit_at (set xs (k + i) y) p ≡ masked k (i + 1) mask bits p (b p)
   unfolding bit_at masked
   put_turn p = elim (ℕ_discrete (p / 8) (k + i)) [ yes e ↦ here e | no f ↦ there f ]
@@ -76,8 +75,8 @@ module _ (xs : List ℕ) (k i mask bits m new y : ℕ) (b : ℕ → ℕ) (inside
           let old : bit (get_or xs (k + i) 0) (p % 8) ≡ b p = sym (at-bit xs p (k + i) (p % 8) e refl) ∙ before p ∙ masked-out k i mask bits p (b p) (λ l m. absurd (omega arith)) in
           at-bit (set xs (k + i) y) p (k + i) (p % 8) e refl
           ∙ ap (λ (x : ℕ). bit x (p % 8)) (get_or-set_same xs (k + i) y 0 inside)
-          ∙ merging (p % 8) (omega arith)
-          ∙ rw (of_mask, of-bits, byte-bit mask i (p % 8) (omega arith), byte-bit bits i (p % 8) (omega arith), old, q) (sym (masked_in k (i + 1) mask bits p (b p) (omega arith) (omega arith)))
+          ∙ ap (λ (x : ℕ). bit x (p % 8)) low ∙ bit-mod merged 8 (p % 8) (omega arith) ∙ merging (p % 8) (omega arith)
+          ∙ rw (of_mask, of-bits, bit_shr mask (8 * i) (p % 8), bit_shr bits (8 * i) (p % 8), old, q) (sym (masked_in k (i + 1) mask bits p (b p) (omega arith) (omega arith)))
 
       same : (p / 8 ≡ k + i → ⊥) → ltb p (8 * (k + i)) ≡ ltb p (8 * (k + (i + 1)))
       same f =
@@ -129,7 +128,7 @@ run-masked s w v p b n ones x h l e f g =
 -- ---- reading
 
 -- a byte is the number of its eight bits
-byte-run : (xs : List ℕ) (k : ℕ) → get_or xs k 0 < 256 → from_bits (λ j. bit_at xs (8 * k + j)) 8 ≡ get_or xs k 0
+pub byte-run : (xs : List ℕ) (k : ℕ) → get_or xs k 0 < 256 → from_bits (λ j. bit_at xs (8 * k + j)) 8 ≡ get_or xs k 0
 byte-run xs k l =
     from-same _ (bit (get_or xs k 0)) 8 (λ j m. at-bit xs (8 * k + j) k j (omega arith) (omega arith)) ∙ from_of (get_or xs k 0) 8 ∙ mod-eq_of_lt l
 

@@ -13,11 +13,11 @@ fn lies_in(n: usize, start: u32, width: u32) -> bool
     (width <= 32) & ((places::end_bit(start, width) + 7) / 8 <= n as u64)
 }
 
-// The byte `old` with the bits that the mask has taken from `new`.
-fn merge(old: u8, mask: u8, new: u8) -> u8
-    ensures { (j : ℕ) → j < 8 → bit result j ≡ cond (eqb (bit mask j) 1) (bit new j) (bit old j) }
+// The number with the bits that the mask has taken from `bits`.
+pub fn merge(word: u64, mask: u64, bits: u64) -> u64
+    ensures { (j : ℕ) → j < 64 → bit result j ≡ cond (eqb (bit mask j) 1) (bit bits j) (bit word j) }
 {
-    (old & (mask ^ 255)) | (new & mask)
+    (word & !mask) | (bits & mask)
 }
 
 // In the n bytes from byte k on, the bits that the mask has are taken from `bits`, the lowest byte first.
@@ -27,22 +27,19 @@ fn put_bytes(out: &mut [u8], k: usize, n: usize, mask: u64, bits: u64)
 {
     let mut m = mask;
     let mut b = bits;
-    let mut i = 0;
-    while i < n {
+    for i in 0..n {
         let at = k + i;
-        out[at] = merge(out[at], (m % 256) as u8, (b % 256) as u8);
+        out[at] = (merge(out[at] as u64, m, b) % 256) as u8;
         m /= 256;
         b /= 256;
-        i += 1;
     }
 }
 
-// A number of n ones.
-fn ones(n: u32) -> u64
-    requires { n < 64 }
-    ensures { result ≡ 2 ^ n - 1 }
+// A number of n ones, where n is below 64 (law ones-few); no n traps.
+pub fn ones(n: u32) -> u64
+    ensures { result ≡ 2 ^ (n % 64) - 1 }
 {
-    (1 << n) - 1
+    (1 << (n % 64)) - 1
 }
 
 // How many bytes a run of n payload bits touches: at most five.
@@ -54,6 +51,7 @@ fn touched(start: u64, n: u32) -> usize
 }
 
 // Whether a run of `width` payload bits has 32 bits at most and lies in n bytes.
+// Kept: beside lies_in. Of a width that is not odd only the bytes that its run touches are counted, which takes fewer steps (docs/BENCH.md).
 fn run_lies_in(n: usize, start: u64, width: u32) -> bool
     ensures { result ≡ (leb width 32 && leb (start + width) (8 * n)) }
 {
@@ -122,9 +120,7 @@ fn get_bytes(payload: &[u8], k: usize, n: usize) -> u64
     ensures { result ≡ run_at payload.now (8 * k) (8 * n) }
 {
     let mut sum = 0;
-    let mut i = n;
-    while 0 < i {
-        i -= 1;
+    for i in (0..n).rev() {
         sum = sum * 256 + payload[k + i] as u64;
     }
     sum
@@ -174,6 +170,7 @@ fn get_even(payload: &[u8], start: u32, width: u32) -> u32
 }
 
 // A parameter's number, from its places; 0 where it does not lie in the payload.
+// Kept: 0 and no None: number_in, of which this promises to be, has a number on every input, and `payload` asks only for numbers that lie there.
 pub fn get(payload: &[u8], start: u32, width: u32) -> u32
     ensures { result ≡ number_in payload.now start width }
 {

@@ -4,7 +4,7 @@ use mathlib.Core.Bool.{Bool, true, false, cond, and-eq-true_iff}
 use mathlib.Core.List.{List}
 use Prim.Native.Nat.{ℕ, zero, suc, ◌-◌, ◌≤◌, ◌<◌}
 use native.Mathlib.Omega.{arith}
-use borrow.Author.Tests.{leb-true, lt-ltb, le-ltb}
+use borrow.Author.Tests.{leb-true, le-leb, lt-ltb, le-ltb}
 use lib.Dec.{leb, ltb}
 use lib.ListN.{length, replicate}
 use Rattle.words.specs.Rows.{row_at}
@@ -21,10 +21,8 @@ use Rattle.counters.specs.declared.Fate.{Fate}
 use Rattle.counters.specs.declared.Fate.TheVariants.{Refused, Filtered, Turned, Queued, Sent}
 use Rattle.counters.specs.Words.{counters_at, noted_at}
 use Rattle.counters.proofs.Rows.{none_read}
-use Rattle.queue.specs.declared.Left.{Left}
-use Rattle.queue.specs.Row.{word_of, from_in, id_in, how_many, Entered, entered, enters_at, left_with, leaves_at, waiting_at}
-use Rattle.bridge.specs.declared.Offered.TheVariants.{To, NoPort}
-use Rattle.bridge.specs.Bridge.{Bridge, bridge, fresh_bridge, is_port, first_other, second_other, third_other, pair_from, answer_to, Met, met, met_by, passed_by, Replied, replied, counted_as, offered_to, refused_from, offers, last_offer, then_third, then_second, offered, slotted_as, sent_from, slotted, stands, standing}
+use Rattle.queue.specs.Row.{word_of, from_in, id_in, how_many, Entered, entered, enters_at, gone, leaves_at, waiting_at}
+use Rattle.bridge.specs.Bridge.{Bridge, bridge, fresh_bridge, is_port, first_other, second_other, third_other, other, To, NoPort, pair_from, answer_to, Met, met, met_by, passed_by, Replied, replied, counted_as, offered_to, refused_from, offers, last_offer, then_third, then_second, offered, slotted_as, sent_from, slotted, stands, standing}
 
 -- ---- ports
 
@@ -34,10 +32,10 @@ port_is p e =
     let (a, b) = (and-eq-true_iff (leb 1 p) (leb p 4)).0 e in
     (leb-true 1 p a, leb-true p 4 b)
 
--- one of two numbers from 1 on
-pub one-least : (b : Bool) (x y : ℕ) → 1 ≤ x → 1 ≤ y → 1 ≤ cond b x y
-one-least true x y h l = h
-one-least false x y h l = l
+-- as the code tests it
+pub tested_port : (p : ℕ) → 1 ≤ p → p ≤ 4 → is_port p ≡ true
+unfolding is_port
+tested_port p h l = rw (le-leb 1 p h, le-leb p 4 l)
 
 -- what holds of 1, 2, 3 and 4 holds of every port
 pub each_port : (P : ℕ → Type 0) → P 1 → P 2 → P 3 → P 4 → (p : ℕ) → is_port p ≡ true → P p
@@ -60,12 +58,15 @@ pub record PairsFrom (p : ℕ) : Type 0 where
   pub first-is : pair_from p 0 ≡ pair_of p (first_other p)
   pub second_is : pair_from p 1 ≡ pair_of p (second_other p)
   pub third-is : pair_from p 2 ≡ pair_of p (third_other p)
+  pub first_at : other (p - 1) 0 ≡ first_other p - 1
+  pub second_at : other (p - 1) 1 ≡ second_other p - 1
+  pub third_at : other (p - 1) 2 ≡ third_other p - 1
 
 pub pairs-from : (p : ℕ) → is_port p ≡ true → PairsFrom p
 unfolding pair_of two_ports
 pairs-from =
-    each_port PairsFrom (record { first-is = refl; second_is = refl; third-is = refl }) (record { first-is = refl; second_is = refl; third-is = refl })
-    (record { first-is = refl; second_is = refl; third-is = refl }) (record { first-is = refl; second_is = refl; third-is = refl })
+    each_port PairsFrom (record { first-is = refl; second_is = refl; third-is = refl; first_at = refl; second_at = refl; third_at = refl }) (record { first-is = refl; second_is = refl; third-is = refl; first_at = refl; second_at = refl; third_at = refl })
+    (record { first-is = refl; second_is = refl; third-is = refl; first_at = refl; second_at = refl; third_at = refl }) (record { first-is = refl; second_is = refl; third-is = refl; first_at = refl; second_at = refl; third_at = refl })
 
 pub number_fits : (p k : ℕ) → is_port p ≡ true → k < 3 → pair_from p k < 12
 number_fits p k y h = let (a, b) = port_is p y in omega arith
@@ -106,13 +107,13 @@ module _ (b : Bridge) (w : List ℕ) (from to id n : ℕ) (e : n ≡ pair_of fro
   unfolding decided decided_by
   answered l = rw (pair_two from to n e h, ← e, le-ltb greatest_identifier id l)
 
-  pub offer_is : id ≤ greatest_identifier → (fs : Fields) (g word : ℕ) → fs ≡ fields_of id → g ≡ pgn_of fs → word ≡ word_of from id
-      → (o : Replied) → o ≡ counted_as b n (passed_by (row_passes (row_at 34 w n) g) (enters_at b.queues (to - 1) word) b.queues) → o ≡ offered_to b w from to id
+  pub offer_is : id ≤ greatest_identifier → (fs : Fields) (g word t : ℕ) → fs ≡ fields_of id → g ≡ pgn_of fs → word ≡ word_of from id → t ≡ to - 1
+      → (o : Replied) → o ≡ counted_as b n (passed_by (row_passes (row_at 34 w n) g) (enters_at b.queues t word) b.queues) → o ≡ offered_to b w from to id
   unfolding offered_to
-  offer_is l fs g word p r u o v =
+  offer_is l fs g word t p r u d o v =
       let q = b.queues in
       let at = enters_at q (to - 1) (word_of from id) in
-      rw (← e) ((rw (u, r, p) at v) ∙ ap (counted_as b n) (by_answer at q (row_passes (row_at 34 w n) (pgn_of (fields_of id))) ∙ ap (λ (s : Said). met_by s at q) (answered l)))
+      rw (← e) ((rw (u, d, r, p) at v) ∙ ap (counted_as b n) (by_answer at q (row_passes (row_at 34 w n) (pgn_of (fields_of id))) ∙ ap (λ (s : Said). met_by s at q) (answered l)))
 
   -- its identifier being none
   pub refusal_is : greatest_identifier < id → replied Refused (bridge (noted_at b.counters n Refused) b.queues) ≡ offered_to b w from to id
@@ -121,13 +122,10 @@ module _ (b : Bridge) (w : List ℕ) (from to id n : ℕ) (e : n ≡ pair_of fro
 
 -- to the three, one after another
 module _ (b : Bridge) (w : List ℕ) (from id : ℕ) where
-  pub offers_are : (x y z : Fate) (b₁ b₂ b₃ : Bridge) (i j k : ℕ) → is_port from ≡ true → i ≡ first_other from → replied x b₁ ≡ offered_to b w from i id
-      → j ≡ second_other from → replied y b₂ ≡ offered_to b₁ w from j id → k ≡ third_other from → replied z b₃ ≡ offered_to b₂ w from k id → offers (To x y z) b₃ ≡ offered b w from id
+  pub offers_are : (x y z : Fate) (b₁ b₂ b₃ : Bridge) → is_port from ≡ true → replied x b₁ ≡ offered_to b w from (first_other from) id
+      → replied y b₂ ≡ offered_to b₁ w from (second_other from) id → replied z b₃ ≡ offered_to b₂ w from (third_other from) id → offers (To x y z) b₃ ≡ offered b w from id
   unfolding offered
-  offers_are x y z b₁ b₂ b₃ i j k h p u q v r s =
-      rw h
-      (ap (last_offer x y) (s ∙ ap (λ (n : ℕ). offered_to b₂ w from n id) r) ∙ ap (then_third w from id x) (v ∙ ap (λ (n : ℕ). offered_to b₁ w from n id) q)
-      ∙ ap (then_second w from id) (u ∙ ap (λ (n : ℕ). offered_to b w from n id) p))
+  offers_are x y z b₁ b₂ b₃ h u v s = rw h (ap (last_offer x y) s ∙ ap (then_third w from id x) v ∙ ap (then_second w from id) u)
 
   -- refused by all three, its identifier being none
   pub refusals_are : is_port from ≡ true → greatest_identifier < id → (counters : List ℕ) → counters ≡ refused_from b.counters from
@@ -135,9 +133,9 @@ module _ (b : Bridge) (w : List ℕ) (from id : ℕ) where
   refusals_are h l counters c =
       let n = pairs-from from h in
       rw c
-      (offers_are _ _ _ _ _ _ _ _ _ h refl (refusal_is b w from (first_other from) id (pair_from from 0) n.first-is (number_fits from 0 h (omega arith)) l)
-      refl (refusal_is _ w from (second_other from) id (pair_from from 1) n.second_is (number_fits from 1 h (omega arith)) l)
-      refl (refusal_is _ w from (third_other from) id (pair_from from 2) n.third-is (number_fits from 2 h (omega arith)) l))
+      (offers_are _ _ _ _ _ _ h (refusal_is b w from (first_other from) id (pair_from from 0) n.first-is (number_fits from 0 h (omega arith)) l)
+      (refusal_is _ w from (second_other from) id (pair_from from 1) n.second_is (number_fits from 1 h (omega arith)) l)
+      (refusal_is _ w from (third_other from) id (pair_from from 2) n.third-is (number_fits from 2 h (omega arith)) l))
 
   -- no port
   pub offers_none : is_port from ≡ false → offers NoPort b ≡ offered b w from id
@@ -147,23 +145,16 @@ module _ (b : Bridge) (w : List ℕ) (from id : ℕ) where
 -- ---- a slot
 
 module _ (b : Bridge) (port f i : ℕ) where
-  sent_case : (l : Left) (after : List ℕ) → l.any ≡ true
-      → slotted_as (answer_to Sent) (bridge (noted_at b.counters (pair_of (from_in l.word) port) Sent) after) (from_in l.word) (id_in l.word) ≡ sent_from b port f i (left_with l after)
-  sent_case l after e = rw e
-
-  none_case : (l : Left) (after : List ℕ) → l.any ≡ false → slotted_as (plain 0) (bridge b.counters after) f i ≡ sent_from b port f i (left_with l after)
-  none_case l after e = rw e
-
-  pub slot-sent : is_port port ≡ true → (l : Left) (after counters : List ℕ) (source pair id : ℕ) (a : Said) → left_with l after ≡ leaves_at b.queues (port - 1) → l.any ≡ true
-      → source ≡ from_in l.word → pair ≡ pair_of source port → counters ≡ noted_at b.counters pair Sent → id ≡ id_in l.word → a ≡ answer_to Sent
+  pub slot-sent : is_port port ≡ true → (word : ℕ) (after counters : List ℕ) (source pair id : ℕ) (a : Said) → gone true word after ≡ leaves_at b.queues (port - 1)
+      → source ≡ from_in word → pair ≡ pair_of source port → counters ≡ noted_at b.counters pair Sent → id ≡ id_in word → a ≡ answer_to Sent
       → slotted_as a (bridge counters after) source id ≡ slotted b port f i
   unfolding slotted
-  slot-sent h l after counters source pair id a o y s p c n e = rw (h, e, c, p, n, s) (sent_case l after y ∙ ap (sent_from b port f i) o)
+  slot-sent h word after counters source pair id a o s p c n e = rw (h, e, c, p, n, s) (ap (sent_from b port f i) o)
 
-  pub slot_none : is_port port ≡ true → (l : Left) (after : List ℕ) (a : Said) → left_with l after ≡ leaves_at b.queues (port - 1) → l.any ≡ false → a ≡ plain 0
+  pub slot_none : is_port port ≡ true → (after : List ℕ) (a : Said) → gone false 0 after ≡ leaves_at b.queues (port - 1) → a ≡ plain 0
       → slotted_as a (bridge b.counters after) f i ≡ slotted b port f i
   unfolding slotted
-  slot_none h l after a o n e = rw (h, e) (none_case l after n ∙ ap (sent_from b port f i) o)
+  slot_none h after a o e = rw (h, e) (ap (sent_from b port f i) o)
 
   pub slot_15 : is_port port ≡ false → (a : Said) → a ≡ plain 15 → slotted_as a b f i ≡ slotted b port f i
   unfolding slotted

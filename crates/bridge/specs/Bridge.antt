@@ -1,6 +1,6 @@
 -- What the bridge's calls answer and leave (02, Req 09), on any words: the counters of twelve pairs, the queues of four ports, and the filters beside them.
 -- Assumes nothing.
-use Rattle.std.specs.Prelude.{Bool, ◌&&◌, cond, List, ℕ, ◌+◌, ◌*◌, ◌-◌, eqb, leb, replicate}
+use Rattle.std.specs.Prelude.{Bool, ◌&&◌, cond, List, ℕ, ◌+◌, ◌*◌, ◌-◌, eqb, leb, replicate, Option, Some, None}
 use Rattle.words.specs.Rows.{row_at}
 use Rattle.answers.specs.Answers.{Said, in_numbers, plain, done}
 use Rattle.pairs.specs.Row.{width, row_passes}
@@ -10,8 +10,6 @@ use Rattle.counters.specs.declared.Fate.{Fate}
 use Rattle.counters.specs.declared.Fate.TheVariants.{Refused, Filtered, Turned, Queued, Sent}
 use Rattle.counters.specs.Words.{no_counters, counters_at, noted_at}
 use Rattle.queue.specs.Row.{word_of, from_in, id_in, how_many, Entered, enters_at, Gone, leaves_at, waiting_at}
-use Rattle.bridge.specs.declared.Offered.{Offered}
-use Rattle.bridge.specs.declared.Offered.TheVariants.{To, NoPort}
 use Rattle.bridge.specs.declared.Standing.{Standing}
 
 -- the words that the caller lends
@@ -39,6 +37,10 @@ second_other p = cond (leb p 2) 3 2
 
 abbrev pub third_other : ℕ → ℕ
 third_other p = cond (leb p 3) 4 3
+
+-- the same by numbers: the k-th port other than one, all counted from 0
+abbrev pub other : ℕ → ℕ → ℕ
+other i k = cond (leb i k) (k + 1) k
 
 -- the number of the pair from a port to its k-th other, counted from 0: the three pairs from a port follow each other
 abbrev pub pair_from : ℕ → ℕ → ℕ
@@ -95,7 +97,17 @@ offered_to b w from to id = counted_as b (pair_of from to) (met_by (decided w fr
 abbrev pub refused_from : List ℕ → ℕ → List ℕ
 refused_from c from = noted_at (noted_at (noted_at c (pair_from from 0) Refused) (pair_from from 1) Refused) (pair_from from 2) Refused
 
--- what becomes of it, and the words afterwards
+-- what becomes of it at each of the three, rising; or that it was no port
+abbrev pub Offered : Type 0
+Offered = Option (Fate × Fate × Fate)
+
+abbrev pub To : Fate → Fate → Fate → Offered
+To x y z = Some (x, y, z)
+
+abbrev pub NoPort : Offered
+NoPort = None
+
+-- with the words afterwards
 pub record Offers : Type 0 where
   pub what : Offered
   pub words : Bridge
@@ -128,8 +140,8 @@ abbrev pub answers : Said → Said → Said → Said → Answers
 answers t x y z = record { told = t; first = x; second = y; third = z }
 
 abbrev pub answers_of : Offered → Answers
-answers_of (To x y z) = answers (plain 0) (answer_to x) (answer_to y) (answer_to z)
-answers_of NoPort = answers (plain 15) (plain 0) (plain 0) (plain 0)
+answers_of (Some (x, y, z)) = answers (plain 0) (answer_to x) (answer_to y) (answer_to z)
+answers_of None = answers (plain 15) (plain 0) (plain 0) (plain 0)
 
 -- with the words afterwards
 pub record Answering : Type 0 where

@@ -12,26 +12,26 @@
 #![tactic(auto)]
 
 use answers::Answer;
-use bridge::{COUNTERS, CounterWords, Offered, QUEUES, QueueWords};
-use lines::{STDOUT_FILENO, end, first, four, longs, more, two};
+use bridge::{COUNTERS, CounterWords, QUEUES, QueueWords};
+use lines::{eight, end, first, four, more, numbers, two};
 use ports::{Filters, WORDS};
 
 // What one of the three ports answered.
 fn port(a: Answer) {
-    more(a.number as u32);
+    more(a.number);
     more(a.detail);
 }
 
 fn offer(c: &mut CounterWords, q: &mut QueueWords, w: &Filters, b: &[u8; 16]) {
     match bridge::offer(c, q, w, b[1], four(b[2], b[3], b[4], b[5])) {
-        Offered::To(x, y, z) => {
-            first(0);
+        Some((x, y, z)) => {
+            first(0u8);
             port(bridge::answer_to(x));
             port(bridge::answer_to(y));
             port(bridge::answer_to(z));
         }
-        Offered::NoPort => {
-            first(15);
+        None => {
+            first(15u8);
             port(answers::plainly(0));
             port(answers::plainly(0));
             port(answers::plainly(0));
@@ -46,7 +46,7 @@ fn slot(c: &mut CounterWords, q: &mut QueueWords, b: &[u8; 16]) {
     let a = bridge::slot(c, q, b[1], &mut from, &mut id);
     first(a.number);
     more(a.detail);
-    more(from as u32);
+    more(from);
     more(id);
     end();
 }
@@ -56,7 +56,7 @@ fn pair(c: &CounterWords, q: &QueueWords, b: &[u8; 16]) {
     let a = s.answer;
     let k = s.counters;
     first(a.number);
-    longs(&[
+    numbers(&[
         k.arrived, k.filtered, k.queued, k.sent, k.turned, k.refused, s.waiting,
     ]);
     end();
@@ -64,37 +64,13 @@ fn pair(c: &CounterWords, q: &QueueWords, b: &[u8; 16]) {
 
 fn command(w: &mut Filters, b: &[u8; 16]) {
     let pgn = four(b[3], b[4], b[5], 0);
-    if b[0] == 4 {
-        let a = ports::add(w, b[1], b[2], pgn);
-        first(a.number);
-        end();
-        return;
-    }
-    if b[0] == 5 {
-        let a = ports::delete(w, b[1], b[2], pgn);
-        first(a.number);
-        end();
-        return;
-    }
-    let a = ports::renew(w, b[1], b[2], b[3]);
+    let a = match b[0] {
+        4 => ports::add(w, b[1], b[2], pgn),
+        5 => ports::delete(w, b[1], b[2], pgn),
+        _ => ports::renew(w, b[1], b[2], b[3]),
+    };
     first(a.number);
     end();
-}
-
-fn word(low: u32, high: u32) -> u64 {
-    low as u64 + high as u64 * 4294967296
-}
-
-fn put_counter(c: &mut CounterWords, at: usize, word: u64) {
-    if at < COUNTERS {
-        c[at] = word;
-    }
-}
-
-fn put_queue(q: &mut QueueWords, at: usize, word: u64) {
-    if at < QUEUES {
-        q[at] = word;
-    }
 }
 
 // The 65 words of a queue.
@@ -102,13 +78,14 @@ fn show(q: &QueueWords, k: usize) {
     let all = &q[..];
     if k < 4 {
         let a = k * 65;
-        io::print_decimal(STDOUT_FILENO, all[a]);
-        longs(&all[a + 1..a + 65]);
+        first(all[a]);
+        numbers(&all[a + 1..a + 65]);
         end();
     }
 }
 
 fn run(c: &mut CounterWords, q: &mut QueueWords, w: &mut Filters, b: &[u8; 16]) {
+    // Kept: a number, since the tag is a byte of the files that tests/model.py writes (tests/README.md).
     match b[0] {
         0 => {
             bridge::fresh(c, q);
@@ -117,20 +94,10 @@ fn run(c: &mut CounterWords, q: &mut QueueWords, w: &mut Filters, b: &[u8; 16]) 
         1 => offer(c, q, w, b),
         2 => slot(c, q, b),
         3 => pair(c, q, b),
-        4 => command(w, b),
-        5 => command(w, b),
-        6 => command(w, b),
-        7 => put_counter(
-            c,
-            two(b[1], 0),
-            word(four(b[2], b[3], b[4], b[5]), four(b[6], b[7], b[8], b[9])),
-        ),
-        8 => put_queue(
-            q,
-            two(b[1], b[2]),
-            word(four(b[3], b[4], b[5], b[6]), four(b[7], b[8], b[9], b[10])),
-        ),
-        9 => show(q, two(b[1], 0)),
+        4..=6 => command(w, b),
+        7 => lines::put(c, b[1] as usize, u64::from_le_bytes(eight(b, 2))),
+        8 => lines::put(q, two(b[1], b[2]), u64::from_le_bytes(eight(b, 3))),
+        9 => show(q, b[1] as usize),
         _ => (),
     }
 }
@@ -140,11 +107,7 @@ fn main() {
     let mut c = [0u64; COUNTERS];
     let mut q = [0u64; QUEUES];
     let mut w = [0u32; WORDS];
-    let mut b = [0u8; 16];
-    for _ in 0..u64::MAX {
-        if !lines::case(&mut b) {
-            break;
-        }
+    for b in (0..u64::MAX).map_while(|_| lines::next_case()) {
         run(&mut c, &mut q, &mut w, &b);
     }
 }

@@ -2,7 +2,7 @@
 use Prim.Native.Nat.{ℕ, ◌+◌, ◌*◌, ◌-◌, ◌≤◌, ◌<◌}
 use native.Mathlib.Omega.{arith}
 use mathlib.Core.Path.{◌≡◌, refl, sym, ap, ◌∙◌}
-use mathlib.Core.Bool.{true, false, cond, ◌&&◌}
+use mathlib.Core.Bool.{Bool, true, false, cond, ◌&&◌}
 use mathlib.Core.List.{List, []}
 use borrow.Author.Tests.{lt-ltb, le-ltb, le-leb, lt-leb, leb-true, leb-false}
 use lib.Dec.{eqb, leb}
@@ -13,10 +13,12 @@ use Rattle.answers.specs.Answers.{Said, plain}
 use Rattle.message.specs.declared.Key.{Key}
 use Rattle.maps.specs.Maps.{same_key}
 use Rattle.keyrow.specs.Row.{key_of}
+use Rattle.image.specs.Write.{behind}
 use Rattle.image.specs.Read.{key_at, row_count, form_of, edition_at, good}
-use Rattle.image.specs.Part.{row_place, off_at, len_at, row_asked, has_row, row_key, row_edition, row_body, row_offset, row_next, row_entry}
+use Rattle.image.specs.Part.{row_place, off_at, len_at, row_asked, has_row, row_key, row_edition, row_body, row_offset, row_next, Entry, row_entry}
 use Rattle.image.proofs.Part.{row_inside}
-use Rattle.contents.specs.Rows.{no_entry}
+use Rattle.contents.specs.declared.Listed.{Listed}
+use Rattle.contents.specs.Rows.{entry_in, no_entry}
 
 module _ (l : List ℕ) (i : ℕ) where
   pub asked_21 : (a : Said) → a ≡ plain 21 → good l ≡ false → a ≡ row_asked l i
@@ -77,7 +79,7 @@ module _ (l : List ℕ) (i : ℕ) where
 
 module _ (l : List ℕ) (i : ℕ) where
   -- 0 is answered exactly where the row is there
-  pub asked_there : (row_asked l i).number ≡ 0 → has_row l i ≡ true
+  asked_there : (row_asked l i).number ≡ 0 → has_row l i ≡ true
   unfolding row_asked has_row
   asked_there e =
       test (good l)
@@ -85,12 +87,19 @@ module _ (l : List ℕ) (i : ℕ) where
       (λ y. let z : ◌≡◌ {A = ℕ} 22 0 = rw (g, y) at e in absurd (omega (arith, z))) (λ n. rw g (lt-ltb i (row_count l) (leb-false (row_count l) i n))))
       (λ g. let z : ◌≡◌ {A = ℕ} 21 0 = rw g at e in absurd (omega (arith, z)))
 
-  pub asked-not : ((row_asked l i).number ≡ 0 → ⊥) → has_row l i ≡ false
+  asked-not : ((row_asked l i).number ≡ 0 → ⊥) → has_row l i ≡ false
   unfolding row_asked has_row
   asked-not n =
       test (good l)
       (λ g. test (leb (row_count l) i) (λ y. rw g (le-ltb i (row_count l) (leb-true (row_count l) i y))) (λ f. absurd (n (rw (g, f)))))
       (λ g. rw g)
+
+  -- by what a call answered
+  pub answered_there : (a : Said) → a ≡ row_asked l i → a.number ≡ 0 → has_row l i ≡ true
+  answered_there a e z = asked_there (sym (ap (λ (s : Said). s.number) e) ∙ z)
+
+  pub answered-not : (a : Said) → a ≡ row_asked l i → (a.number ≡ 0 → ⊥) → has_row l i ≡ false
+  answered-not a e n = asked-not (λ z. n (ap (λ (s : Said). s.number) e ∙ z))
 
   -- how long the body of a row is that is there
   size_there : has_row l i ≡ true → len_at l (row_place l i) ≡ length (row_body l i)
@@ -101,23 +110,32 @@ module _ (l : List ℕ) (i : ℕ) where
   entry_there a k from size edition e h f g s w =
       λ j. record { answer = e j; key = (f ∙ key_there l i h) j; offset = (g ∙ off_there l i h) j; size = (s ∙ size_there h) j; edition = (w ∙ edition_there l i h) j }
 
-  pub entry_not : (a : Said) → a ≡ row_asked l i → has_row l i ≡ false → no_entry a ≡ row_entry l i
-  entry_not a e n = λ j. record { answer = e j; key = key-not l i n j; offset = off-not l i n j; size = length (part_not l i n j); edition = edition-not l i n j }
+  pub entry_not : (a : Said) → a ≡ row_asked l i → (a.number ≡ 0 → ⊥) → no_entry a ≡ row_entry l i
+  entry_not a e z =
+      let n = answered-not a e z in
+      λ j. record { answer = e j; key = key-not l i n j; offset = off-not l i n j; size = length (part_not l i n j); edition = edition-not l i n j }
 
   -- ---- the body as a part
 
   -- it lies inside the image, also on a refusal
-  pub part_inside : row_offset l i + length (row_body l i) ≤ length l
+  part_inside : row_offset l i + length (row_body l i) ≤ length l
   part_inside =
       test (has_row l i) (λ h. omega (arith, off_there l i h, size_there h, (row_inside l i h).1))
       (λ n. omega (arith, off-not l i n, ap length (part_not l i n)))
 
-  pub part_is : (from size : ℕ) → from ≡ row_offset l i → size ≡ length (row_body l i) → take (from + size - from) (drop from l) ≡ row_body l i
+  part_is : (from size : ℕ) → from ≡ row_offset l i → size ≡ length (row_body l i) → take (from + size - from) (drop from l) ≡ row_body l i
   part_is from size e f =
       let d : from + size - from ≡ size = omega arith in
       (λ j. take ((d ∙ f) j) (drop (e j) l))
       ∙ test (has_row l i) (λ h. (λ j. take (sym (size_there h) j) (drop (sym (off_there l i h) j) l)) ∙ body_there l i h)
       (λ n. let z = sym (part_not l i n) in (λ j. take (length (z j)) (drop (row_offset l i) l)) ∙ part_not l i n)
+
+  -- as all that the row says has it
+  pub told_inside : (x : Listed) → entry_in x ≡ row_entry l i → x.offset + x.size ≤ length l
+  told_inside x e = omega (arith, ap (λ (y : Entry). y.offset) e, ap (λ (y : Entry). y.size) e, part_inside)
+
+  pub told_part : (x : Listed) → entry_in x ≡ row_entry l i → take (x.offset + x.size - x.offset) (drop x.offset l) ≡ row_body l i
+  told_part x e = part_is x.offset x.size (ap (λ (y : Entry). y.offset) e) (ap (λ (y : Entry). y.size) e)
 
 -- a number of two bytes of a row
 module _ (l : List ℕ) (p w : ℕ) where
@@ -134,3 +152,7 @@ lies_at s e = λ i. (s.ref_ptr.0, e i + s.ref_ptr.1)
 pub same_key_lem : (a b : Key) → (eqb a.source b.source && (eqb a.destination b.destination && eqb a.k b.k)) ≡ same_key a b
 unfolding same_key
 same_key_lem a b = refl
+
+-- the row at an index has a key where a look at its place says so
+pub seen : (l : List ℕ) (i form : ℕ) → form ≡ form_of l → (r : ℕ) → r ≡ behind form i → (k : Key) (b : Bool) → b ≡ same_key (key_at l r) k → same_key (key_at l (row_place l i)) k ≡ b
+seen l i form f r q k b e = sym (e ∙ ap (λ (x : ℕ). same_key (key_at l x) k) (q ∙ ap (λ (x : ℕ). behind x i) f))

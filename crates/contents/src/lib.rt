@@ -6,7 +6,6 @@
 ghost use Rattle.std.specs.Prelude.{◌≡◌, ◌+◌, ◌*◌, ◌≤◌, ◌<◌, cond, eqb, get_or};
 ghost use Rattle.answers.specs.Answers.{in_numbers};
 ghost use Rattle.maps.specs.Maps.{same_key};
-ghost use Rattle.keyrow.specs.Row.{key_of};
 ghost use Rattle.image.specs.Read.{key_at, edition_at};
 ghost use Rattle.image.specs.Part.{row_asked, row_key, row_body, row_offset, row_next, row_entry, row_with, PartOf};
 ghost use Rattle.contents.specs.Rows.{entry_in, no_entry};
@@ -29,7 +28,7 @@ fn word(s: &[u8], p: usize) -> usize
     requires { p ≤ 65536 }
     ensures { (result ≡ get_or s.now p 0 + get_or s.now (p + 1) 0 * 256) × (result < 65536) }
 {
-    byte_at(s, p) as usize + byte_at(s, p + 1) as usize * 256
+    u16::from_le_bytes([byte_at(s, p), byte_at(s, p + 1)]) as usize
 }
 
 // How many rows the contents say there are.
@@ -66,6 +65,7 @@ pub fn row_asked(image: &[u8], i: usize) -> Answer
 }
 
 // What a row says, all of it in numbers: for C, and for who cannot hold a part. All but the answer is 0 on a refusal.
+// Kept: the answer beside the rest and no `Result`, as include/yendrolf.h lends C one struct of both.
 #[derive(Clone, Copy)]
 pub struct Listed {
     pub answer: Answer,
@@ -104,11 +104,7 @@ pub fn row(image: &[u8], i: usize) -> Listed
     let r = save::behind(form, i as u8);
     Listed {
         answer,
-        key: Key {
-            source: byte_at(image, r),
-            destination: byte_at(image, r + 1),
-            k: byte_at(image, r + 2),
-        },
+        key: load::key_at(image, r),
         offset: word(image, r + OFFSET),
         size: word(image, r + LENGTH),
         edition: edition_at(image, form, r),
@@ -147,49 +143,47 @@ pub fn row_next(image: &[u8], i: usize) -> usize
 // ---- a row by its key
 
 // Whether the row at byte r has this key.
-fn row_is(image: &[u8], r: usize, source: u8, destination: u8, k: u8) -> bool
+fn row_is(image: &[u8], r: usize, key: Key) -> bool
     requires { r ≤ 65536 }
-    ensures { result ≡ same_key (key_at image.now r) (key_of source destination k) }
+    ensures { result ≡ same_key (key_at image.now r) key }
 {
-    (byte_at(image, r) == source)
-        & ((byte_at(image, r + 1) == destination) & (byte_at(image, r + 2) == k))
+    load::key_at(image, r) == key
 }
 
 // The lowest row that the contents give this key, whatever the image is; the number of rows where none has it.
-pub fn row_with(image: &[u8], source: u8, destination: u8, k: u8) -> usize
-    ensures { result ≡ row_with image.now (key_of source destination k) }
+// Kept: a number and no `Option`: the calls below ask for just this row, and the row past the last is told as one that is not there.
+pub fn row_with(image: &[u8], key: Key) -> usize
+    ensures { result ≡ row_with image.now key }
 {
     let form = load::form_of(image);
-    let c = byte_at(image, 1);
-    let mut i = 0;
-    while i < c {
-        if row_is(image, save::behind(form, i), source, destination, k) {
+    let count = byte_at(image, 1);
+    for i in 0..count {
+        if row_is(image, save::behind(form, i), key) {
             return i as usize;
         }
-        i += 1;
     }
-    c as usize
+    count as usize
 }
 
 // The body of a key, as a part of the image.
-pub fn body<'a>(image: &'a [u8], source: u8, destination: u8, k: u8) -> &'a [u8]
-    ensures { PartOf image.entry result (row_offset image.now (row_with image.now (key_of source destination k)))
-        (row_body image.now (row_with image.now (key_of source destination k))) }
+pub fn body<'a>(image: &'a [u8], key: Key) -> &'a [u8]
+    ensures { PartOf image.entry result (row_offset image.now (row_with image.now key))
+        (row_body image.now (row_with image.now key)) }
 {
-    let i = row_with(image, source, destination, k);
+    let i = row_with(image, key);
     row_body(image, i)
 }
 
 // 21, 22, or 0.
-pub fn asked(image: &[u8], source: u8, destination: u8, k: u8) -> Answer
-    ensures { in_numbers result ≡ row_asked image.now (row_with image.now (key_of source destination k)) }
+pub fn asked(image: &[u8], key: Key) -> Answer
+    ensures { in_numbers result ≡ row_asked image.now (row_with image.now key) }
 {
-    row_asked(image, row_with(image, source, destination, k))
+    row_asked(image, row_with(image, key))
 }
 
 // The row of a key: 21, 22, or 0 with where its body begins and how long it is, and its edition.
-pub fn row_of(image: &[u8], source: u8, destination: u8, k: u8) -> Listed
-    ensures { entry_in result ≡ row_entry image.now (row_with image.now (key_of source destination k)) }
+pub fn row_of(image: &[u8], key: Key) -> Listed
+    ensures { entry_in result ≡ row_entry image.now (row_with image.now key) }
 {
-    row(image, row_with(image, source, destination, k))
+    row(image, row_with(image, key))
 }

@@ -1,35 +1,32 @@
 -- The words of the counters, as the functions read and write them, and what a fate that is noted does to the counters of each pair. Assumes nothing.
-use Rattle.std.proofs.Common.{◌≡◌, ℕ, ◌+◌, ◌-◌, ◌*◌, ◌/◌, ◌<◌, ◌≤◌, List, ◌++◌, length, take, drop, set, sym, refl, ap, ◌∙◌, append-nil, arith, drop_of_length-le, le-ltb, lt-ltb}
-use lib.Seq.{sets-eq}
+use Rattle.std.proofs.Common.{◌≡◌, ℕ, ◌+◌, ◌*◌, ◌/◌, ◌<◌, ◌≤◌, List, ◌++◌, length, take, drop, sym, refl, ap, ◌∙◌, arith, le-ltb, lt-ltb}
 use Rattle.words.specs.Rows.{row_at, put_at}
-use Rattle.words.proofs.Rows.{part_is-row, back_is-put, length-put_at, row_at-put_at, row_at-put_at-other}
+use Rattle.words.proofs.Rows.{length-put_at, row_at-put_at, row_at-put_at-other}
 use Rattle.counters.specs.declared.Counters.{Counters}
 use Rattle.counters.specs.declared.Fate.{Fate}
 use Rattle.counters.specs.Count.{with_fate}
 use Rattle.counters.specs.Words.{no_counters, counters_in, words_of, counters_at, noted_at}
 
--- six stores, one after another
-pub six_stored : (r : List ℕ) → length r ≡ 6 → (c : Counters)
-    → set (set (set (set (set (set r 0 c.arrived) 1 c.filtered) 2 c.queued) 3 c.sent) 4 c.turned) 5 c.refused ≡ words_of c
-six_stored r e c =
-    sets-eq (words_of c) r 0 (omega (arith, e)) ∙ ap (λ (l : List ℕ). words_of c ++ l) (drop_of_length-le r {i = 6} (omega (arith, e))) ∙ append-nil (words_of c)
+-- counters that are each 0
+pub all_0 : {a f q s t r : ℕ} → a ≡ 0 → f ≡ 0 → q ≡ 0 → s ≡ 0 → t ≡ 0 → r ≡ 0
+    → record { arrived = a; filtered = f; queued = q; sent = s; turned = t; refused = r } ≡ no_counters
+all_0 a f q s t r = rw (a, f, q, s, t, r)
 
--- ---- row i is lent as a part, and comes back
+-- ---- row i is lent, behind the rows before it, and comes back
 
 module _ (w : List ℕ) (i : ℕ) where
-  pub lent-noted : (f : Fate) {r : List ℕ} → i < length w / 6 → r ≡ words_of (with_fate (counters_in (take (i * 6 + 6 - i * 6) (drop (i * 6) w))) f)
-      → take (i * 6) w ++ (r ++ drop (i * 6 + 6 - i * 6) (drop (i * 6) w)) ≡ noted_at w i f
-  unfolding noted_at
-  lent-noted f {r} h e =
-      rw (back_is-put 6 w i r, lt-ltb i (length w / 6) h) (ap (put_at 6 w i) (e ∙ ap (λ (x : List ℕ). words_of (with_fate (counters_in x) f)) (part_is-row 6 w i)))
+  module _ {front rest row : List ℕ} (h : i < length w / 6) (e : front ≡ take (i * 6) w) (f : rest ≡ drop (i * 6) w) (g : row ≡ take 6 rest) where
+    pub lent-noted : (k : Fate) {r : List ℕ} → r ≡ words_of (with_fate (counters_in row) k) → front ++ (r ++ drop 6 rest) ≡ noted_at w i k
+    unfolding noted_at row_at put_at
+    lent-noted k {r} o = rw (e, f, lt-ltb i (length w / 6) h) (ap (put_at 6 w i) (rw (g, f) at o))
+
+    pub lent_read : {c : Counters} → c ≡ counters_in row → c ≡ counters_at w i
+    unfolding counters_at row_at
+    lent_read o = rw (lt-ltb i (length w / 6) h) (rw (g, f) at o)
 
   pub none_noted : (f : Fate) → length w / 6 ≤ i → w ≡ noted_at w i f
   unfolding noted_at
   none_noted f h = rw (le-ltb i (length w / 6) h)
-
-  pub lent_read : {c : Counters} → i < length w / 6 → c ≡ counters_in (take (i * 6 + 6 - i * 6) (drop (i * 6) w)) → c ≡ counters_at w i
-  unfolding counters_at
-  lent_read h e = rw (lt-ltb i (length w / 6) h) (e ∙ ap counters_in (part_is-row 6 w i))
 
   pub none_read : length w / 6 ≤ i → no_counters ≡ counters_at w i
   unfolding counters_at

@@ -3,16 +3,16 @@
 // lends, six for each pair (specs/Words.antt). Whatever they hold, they are counted on from there, modulo 2^64.
 #![tactic(auto)]
 
-ghost use Rattle.std.specs.Prelude.{◌≡◌, length};
+ghost use Rattle.std.specs.Prelude.{◌≡◌};
 ghost use Rattle.counters.specs.Count.{more, with_arrived, with_filtered, with_queued, with_sent, with_turned, with_refused, with_fate};
-ghost use Rattle.counters.specs.Words.{no_counters, counters_in, words_of, counters_at, noted_at};
+ghost use Rattle.counters.specs.Words.{counters_in, words_of, counters_at, noted_at};
 
 // The words of a pair.
 pub const PAIR_WORDS: usize = 6;
 
 // The counters of a pair. (`repr(C)`: firmware hands them to C as they are.)
 #[repr(C)]
-#[derive(Clone, Copy)]
+#[derive(Clone, Copy, Default)]
 pub struct Counters {
     pub arrived: u64, // all that were offered
     pub filtered: u64, // those that the pair's list stopped
@@ -23,7 +23,7 @@ pub struct Counters {
 }
 
 // What becomes of a frame at a pair: one that is offered is refused, filtered, turned away or queued, and one that was queued is sent.
-#[derive(Clone, Copy)]
+#[derive(Clone, Copy, PartialEq, Eq)]
 pub enum Fate {
     Refused,
     Filtered,
@@ -32,227 +32,123 @@ pub enum Fate {
     Sent,
 }
 
-// ---- the arithmetic, by value
-
 // One more, modulo 2^64.
+// Kept: a name of its own for one call of the library, as it is public, and its promise is by the definition that the six counts are said by.
 pub fn one_more(n: u64) -> u64
     ensures { result ≡ more n }
 {
-    std::num::wrapping_add_u64(n, 1)
-}
-
-fn with_arrived(mut c: Counters) -> Counters
-    ensures { result ≡ with_arrived c }
-{
-    let n = one_more(c.arrived);
-    c.arrived = n;
-    c
-}
-
-fn with_filtered(mut c: Counters) -> Counters
-    ensures { result ≡ with_filtered c }
-{
-    let n = one_more(c.filtered);
-    c.filtered = n;
-    c
-}
-
-fn with_queued(mut c: Counters) -> Counters
-    ensures { result ≡ with_queued c }
-{
-    let n = one_more(c.queued);
-    c.queued = n;
-    c
-}
-
-fn with_sent(mut c: Counters) -> Counters
-    ensures { result ≡ with_sent c }
-{
-    let n = one_more(c.sent);
-    c.sent = n;
-    c
-}
-
-fn with_turned(mut c: Counters) -> Counters
-    ensures { result ≡ with_turned c }
-{
-    let n = one_more(c.turned);
-    c.turned = n;
-    c
-}
-
-fn with_refused(mut c: Counters) -> Counters
-    ensures { result ≡ with_refused c }
-{
-    let n = one_more(c.refused);
-    c.refused = n;
-    c
+    n.wrapping_add(1)
 }
 
 // ---- one thin function an event, on counters where they stand
+// Kept: six of one shape, a line each, since docs/PROMISES.md names each of them.
 
 // A frame arrived.
 pub fn count_arrived(c: &mut Counters)
     ensures { c.new ≡ with_arrived c.old }
 {
-    *c = with_arrived(*c);
+    c.arrived = one_more(c.arrived);
 }
 
 // One was filtered.
 pub fn count_filtered(c: &mut Counters)
     ensures { c.new ≡ with_filtered c.old }
 {
-    *c = with_filtered(*c);
+    c.filtered = one_more(c.filtered);
 }
 
 // One was queued.
 pub fn count_queued(c: &mut Counters)
     ensures { c.new ≡ with_queued c.old }
 {
-    *c = with_queued(*c);
+    c.queued = one_more(c.queued);
 }
 
 // One was sent.
 pub fn count_sent(c: &mut Counters)
     ensures { c.new ≡ with_sent c.old }
 {
-    *c = with_sent(*c);
+    c.sent = one_more(c.sent);
 }
 
 // One was turned away.
 pub fn count_turned(c: &mut Counters)
     ensures { c.new ≡ with_turned c.old }
 {
-    *c = with_turned(*c);
+    c.turned = one_more(c.turned);
 }
 
 // One was refused.
 pub fn count_refused(c: &mut Counters)
     ensures { c.new ≡ with_refused c.old }
 {
-    *c = with_refused(*c);
+    c.refused = one_more(c.refused);
 }
 
-// ---- counters that stand in a local, and are lent from there: the functions above these are lent no struct (docs/DECISIONS.md)
-
-fn then_arrived(mut c: Counters) -> Counters
-    ensures { result ≡ with_arrived c }
+// What became of a frame: whichever was offered has arrived.
+#[tactic(auto, unfolding(crate::specs::Count::with_fate))]
+fn count(c: &mut Counters, fate: Fate)
+    ensures { c.new ≡ with_fate c.old fate }
 {
-    count_arrived(&mut c);
-    c
-}
-
-fn then_filtered(mut c: Counters) -> Counters
-    ensures { result ≡ with_filtered c }
-{
-    count_filtered(&mut c);
-    c
-}
-
-fn then_queued(mut c: Counters) -> Counters
-    ensures { result ≡ with_queued c }
-{
-    count_queued(&mut c);
-    c
-}
-
-fn then_sent(mut c: Counters) -> Counters
-    ensures { result ≡ with_sent c }
-{
-    count_sent(&mut c);
-    c
-}
-
-fn then_turned(mut c: Counters) -> Counters
-    ensures { result ≡ with_turned c }
-{
-    count_turned(&mut c);
-    c
-}
-
-fn then_refused(mut c: Counters) -> Counters
-    ensures { result ≡ with_refused c }
-{
-    count_refused(&mut c);
-    c
-}
-
-// What became of a frame, counted: whichever was offered has arrived.
-fn counted(c: Counters, fate: Fate) -> Counters
-    ensures { result ≡ with_fate c fate }
-{
+    if fate != Fate::Sent {
+        count_arrived(c);
+    }
     match fate {
-        Fate::Refused => then_refused(then_arrived(c)),
-        Fate::Filtered => then_filtered(then_arrived(c)),
-        Fate::Turned => then_turned(then_arrived(c)),
-        Fate::Queued => then_queued(then_arrived(c)),
-        Fate::Sent => then_sent(c),
+        Fate::Refused => count_refused(c),
+        Fate::Filtered => count_filtered(c),
+        Fate::Turned => count_turned(c),
+        Fate::Queued => count_queued(c),
+        Fate::Sent => count_sent(c),
     }
 }
 
 // ---- words
 
 // The counters in the words of a pair.
-fn read_row(row: &[u64]) -> Counters
-    requires { length row.now ≡ 6 }
-    ensures { result ≡ counters_in row.now }
-{
-    Counters {
-        arrived: row[0],
-        filtered: row[1],
-        queued: row[2],
-        sent: row[3],
-        turned: row[4],
-        refused: row[5],
+impl From<[u64; PAIR_WORDS]> for Counters {
+    ghost from_gives = { λ row c. c ≡ counters_in row };
+
+    fn from(row: [u64; PAIR_WORDS]) -> Counters {
+        let [arrived, filtered, queued, sent, turned, refused] = row;
+        Counters {
+            arrived,
+            filtered,
+            queued,
+            sent,
+            turned,
+            refused,
+        }
     }
 }
 
 // The words of a pair's counters.
-fn write_row(row: &mut [u64], c: Counters)
-    requires { length row.old ≡ 6 }
-    ensures { row.new ≡ words_of c }
-{
-    row[0] = c.arrived;
-    row[1] = c.filtered;
-    row[2] = c.queued;
-    row[3] = c.sent;
-    row[4] = c.turned;
-    row[5] = c.refused;
+impl From<Counters> for [u64; PAIR_WORDS] {
+    ghost from_gives = { λ c row. row ≡ words_of c };
+
+    fn from(c: Counters) -> [u64; PAIR_WORDS] {
+        [c.arrived, c.filtered, c.queued, c.sent, c.turned, c.refused]
+    }
 }
 
 // What became of a frame, counted in the words of its pair.
-fn note_as(row: &mut [u64], fate: Fate)
-    requires { length row.old ≡ 6 }
+fn note_row(row: &mut [u64; PAIR_WORDS], fate: Fate)
     ensures { row.new ≡ words_of (with_fate (counters_in row.old) fate) }
 {
-    let c = counted(read_row(row), fate);
-    write_row(row, c);
-}
-
-// The same, case by case: in each the compiler sees which counters change, and writes no other word.
-fn note_row(row: &mut [u64], fate: Fate)
-    requires { length row.old ≡ 6 }
-    ensures { row.new ≡ words_of (with_fate (counters_in row.old) fate) }
-{
-    match fate {
-        Fate::Refused => note_as(row, Fate::Refused),
-        Fate::Filtered => note_as(row, Fate::Filtered),
-        Fate::Turned => note_as(row, Fate::Turned),
-        Fate::Queued => note_as(row, Fate::Queued),
-        Fate::Sent => note_as(row, Fate::Sent),
-    }
+    let mut c = Counters::from(*row);
+    count(&mut c, fate);
+    *row = c.into();
 }
 
 // What became of a frame at the pair with this number, counted in its words, while all others stay; nothing where no pair has that number.
 pub fn note(w: &mut [u64], pair: usize, fate: Fate)
     ensures { w.new ≡ noted_at w.old pair fate }
 {
-    if w.len() / PAIR_WORDS <= pair {
-        return;
+    if pair < w.len() / PAIR_WORDS {
+        let (_, rest) = w.split_at_mut(pair * PAIR_WORDS);
+        if let Some(row) = rest.first_chunk_mut() {
+            note_row(row, fate);
+        }
     }
-    let a = pair * PAIR_WORDS;
-    let e = a + PAIR_WORDS;
-    note_row(&mut w[a..e], fate);
 }
 
 // The counters of the pair with this number, all 0 where no pair has it.
@@ -260,16 +156,10 @@ pub fn at(w: &[u64], pair: usize) -> Counters
     ensures { result ≡ counters_at w.now pair }
 {
     if pair < w.len() / PAIR_WORDS {
-        let a = pair * PAIR_WORDS;
-        let e = a + PAIR_WORDS;
-        return read_row(&w[a..e]);
+        let (_, rest) = w.split_at(pair * PAIR_WORDS);
+        if let Some(row) = rest.first_chunk() {
+            return Counters::from(*row);
+        }
     }
-    Counters {
-        arrived: 0,
-        filtered: 0,
-        queued: 0,
-        sent: 0,
-        turned: 0,
-        refused: 0,
-    }
+    Counters::default()
 }

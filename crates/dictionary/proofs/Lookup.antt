@@ -9,7 +9,8 @@ use native.Mathlib.Nat.{le_of_suc-le-suc, not-suc-le-zero}
 use lib.Dec.{eqb}
 use lib.ListN.{length}
 use borrow.Author.Tests.{eqb-true, eqb-false}
-use Rattle.rowrule.specs.Rows.{Row, row_in}
+use Rattle.rowrule.specs.declared.Row.{Row}
+use Rattle.rowrule.specs.Rows.{row_in}
 use Rattle.dictionary.specs.Dictionary.{width_in, number_in}
 
 -- row k has the SPN

@@ -11,7 +11,8 @@ use native.Mathlib.Decide.{dec_lt}
 use native.Mathlib.Omega.{arith}
 use lib.Dec.{T, leb, leb→le}
 use lib.ListN.{length}
-use Rattle.rowrule.specs.Rows.{Row, row_in, ruled}
+use Rattle.rowrule.specs.declared.Row.{Row}
+use Rattle.rowrule.specs.Rows.{row_in, ruled}
 use Rattle.dictionary.specs.Dictionary.{width_in, number_in}
 use Rattle.dictionary.proofs.Lookup.{Has, Lacks, Looked, at, nowhere, looked}
 

@@ -8,8 +8,7 @@ use Rattle.words.specs.First.{first}
 use Rattle.words.specs.Halve.{turns}
 use Rattle.rowrule.specs.Rows.{table, row_count, row_at, rows_by}
 use Rattle.rowrule.proofs.Table.{size, table-ruled, rows-ruled}
-use Rattle.dictionary.specs.declared.Found.{Found}
-use Rattle.dictionary.specs.declared.Found.TheVariants.{At, Nothing}
+use Rattle.std.specs.Prelude.{Option as Maybe, Some, None}
 use Rattle.dictionary.specs.Dictionary.{width_of, width_by, number_of, found_row}
 use Rattle.dictionary.proofs.Lookup.{Has, Lacks, looked, at_found, none_found}
 use Rattle.dictionary.proofs.Rule.{rising, widths, once, found, width-most_in, width_none_in}
@@ -65,9 +64,8 @@ unfolding width_by width_of
 newer s = refl
 
 -- two answers that say the same are the same
-pub found_one : (a b : Found) → found_row a ≡ found_row b → a ≡ b
-unfolding found_row
-found_one (At i) (At j) e = ap At (some-injective i j e)
-found_one (At i) Nothing e = absurd (some-ne-none i e)
-found_one Nothing (At j) e = absurd (none-ne-some j e)
-found_one Nothing Nothing e = refl
+pub found_one : (a b : Maybe ℕ) → found_row a ≡ found_row b → a ≡ b
+found_one (Some i) (Some j) e = ap Some (some-injective i j e)
+found_one (Some i) None e = absurd (some-ne-none i e)
+found_one None (Some j) e = absurd (none-ne-some j e)
+found_one None None e = refl

@@ -2,11 +2,12 @@
 -- rule is that of the crate rowrule.
 -- Assumes nothing.
 use Rattle.std.specs.Prelude.{ℕ, suc, min, ◌≤◌, cond, List, [], ◌∷◌, ◌++◌, T, eqb, length, get_or, drop}
+use Rattle.std.specs.Prelude.{Option as Maybe, Some, None}
 use Rattle.std.proofs.Math.Option.{Option, none, some, map}
 use Rattle.words.specs.Lists.{tabulate}
-use Rattle.rowrule.specs.Rows.{Row, ruled, table, rows_by, rows_in}
-use Rattle.dictionary.specs.declared.Found.{Found}
-use Rattle.dictionary.specs.declared.Found.TheVariants.{At, Nothing}
+use Rattle.rowrule.specs.declared.Row.{Row}
+use Rattle.rowrule.specs.Rows.{ruled, table, rows_by}
+use Rattle.dictionary.specs.declared.Entry.{Entry}
 
 -- "The width of a parameter comes from a constant dictionary": that of the row that has the SPN, the first if several have it, and 0 if
 -- none has it
@@ -39,12 +40,21 @@ reach spns held = min (length spns) (length held)
 unfoldable pub widths_over : (ℕ → ℕ) → List ℕ → List ℕ → List ℕ
 widths_over width_of spns held = tabulate (λ i. width_of (get_or spns i 0)) (reach spns held) ++ drop (reach spns held) held
 
--- what each case of the code's answer says: the number of a row, or none
-unfoldable pub found_row : Found → Option ℕ
-found_row (At i) = some i
-found_row Nothing = none
+-- what each case of the code's answers says: the number of a row, or none
+abbrev pub found_row : Maybe ℕ → Option ℕ
+found_row (Some i) = some i
+found_row None = none
+
+-- and of an entry the number of its row, and the width, 0 where there is none
+abbrev pub entry_row : Maybe Entry → Option ℕ
+entry_row (Some e) = some e.row
+entry_row None = none
+
+abbrev pub entry_width : Maybe Entry → ℕ
+entry_width (Some e) = e.width
+entry_width None = 0
 
 -- ---- rows that are lent to a search: some, that obey the rule
 
-abbrev pub Lent : List (List ℕ) → Type 0
-Lent ps = (1 ≤ length ps) × T (ruled 0 (rows_in ps))
+abbrev pub Lent : List Row → Type 0
+Lent rows = (1 ≤ length rows) × T (ruled 0 rows)

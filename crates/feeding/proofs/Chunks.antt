@@ -1,6 +1,6 @@
 -- A tally and a chunk, by the laws of chunks (record): either the chunk completes no record, or the first record is the carried bytes with the start of the
 -- chunk. Assumes nothing.
-use Rattle.std.proofs.Common.{◌≡◌, ℕ, ◌-◌, ◌%◌, ◌<◌, ◌≤◌, List, ◌++◌, length, take, drop, sym, ap, subst, arith}
+use Rattle.std.proofs.Common.{◌≡◌, ℕ, ◌-◌, ◌<◌, ◌≤◌, List, ◌++◌, length, take, drop, ap, subst, arith}
 use Rattle.record.specs.Cut.{left_of, over}
 use Rattle.record.specs.Chunk.{carried, padded}
 use Rattle.record.proofs.Chunks as chunks
@@ -9,11 +9,9 @@ use Rattle.feeding.specs.declared.Begun.{Begun}
 use Rattle.feeding.specs.Feed.{State, state, step, tally_of, begun, Fed, fed, cut_off, feeding}
 
 -- what the whole records of a slice leave
-pub leaving : (l : List ℕ) (u v : State) (carry : List ℕ) → u ≡ v → carry ≡ padded (drop (length l - length l % 13) l)
-    → fed u.words (record { counts = u.counts; left = length l % 13; carry = carry }) ≡ cut_off v (left_of l)
-leaving l u v carry p q =
-    let (e, n) = chunks.leaving l in
-    rw (p, q, ← e) (ap (λ (k : ℕ). fed v.words (record { counts = v.counts; left = k; carry = padded (left_of l) })) (sym n))
+pub leaving : (l cut : List ℕ) (u v : State) (carry : List ℕ) → u ≡ v → cut ≡ left_of l → carry ≡ padded cut
+    → fed u.words (record { counts = u.counts; left = length cut; carry = carry }) ≡ cut_off v (left_of l)
+leaving l cut u v carry p e q = rw (p, q, e)
 
 -- ---- a tally and a chunk: what is begun then
 

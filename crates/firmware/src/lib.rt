@@ -35,12 +35,13 @@ ghost use Rattle.firmware.specs.Told.{row_to, version, said_to, told_of, held_of
 
 use answers::Answer;
 use ask::{Found, Parameter};
-use bridge::{CounterWords, Offered, QueueWords, Standing};
+use bridge::{CounterWords, QueueWords, Standing};
 use contents::Listed;
-use counters::Counters;
+use counters::{Counters, Fate};
 use hire::Line;
-use lookup::{Next, Table};
+use lookup::Table;
 use meaning::{Meaning, Scaled};
+use message::{Fault, Key};
 use ports::Filters;
 use tally::{Cell, Cells};
 use transport::{Arrived, Bytes, Heads, Payload};
@@ -170,17 +171,17 @@ pub struct Answered {
 }
 
 // What a frame at a port is answered, as C gets it.
-fn answered_in_c(offered: Offered) -> Answered
+fn answered_in_c(offered: Option<(Fate, Fate, Fate)>) -> Answered
     ensures { answers_in result ≡ answers_of offered }
 {
     match offered {
-        Offered::To(x, y, z) => Answered {
+        Some((x, y, z)) => Answered {
             told: in_c(answers::plainly(0)),
             first: in_c(bridge::answer_to(x)),
             second: in_c(bridge::answer_to(y)),
             third: in_c(bridge::answer_to(z)),
         },
-        Offered::NoPort => {
+        None => {
             let none = in_c(answers::plainly(0));
             Answered {
                 told: in_c(answers::plainly(15)),
@@ -245,17 +246,17 @@ pub struct Held {
 }
 
 // A key as C gets it.
-fn key_in_c(next: Next) -> Held
+fn key_in_c(next: Option<Key>) -> Held
     ensures { result ≡ held_of (key_found next) }
 {
     match next {
-        Next::Found(key) => Held {
+        Some(key) => Held {
             held: 1,
             source: key.source,
             destination: key.destination,
             k: key.k,
         },
-        Next::NoMore => Held {
+        None => Held {
             held: 0,
             source: 0,
             destination: 0,
@@ -292,7 +293,7 @@ pub extern "C" fn yendrolf_table_empty(t: &mut Table)
 pub extern "C" fn yendrolf_table_learn(t: &mut Table, id: u32, len: u8, d: &[u8; 8]) -> Told
     ensures { outcome (said_to result) t.new ≡ learnt t.old id len d.now }
 {
-    if message::frame_fault(id, len, frame::split(id)) == 2 {
+    if let Some(Fault::OtherPgn) = message::frame_fault(id, len, frame::split(id)) {
         return in_c(answers::plainly(2));
     }
     in_c(table::learn(t, id, len, d))
@@ -303,7 +304,12 @@ pub extern "C" fn yendrolf_table_learn(t: &mut Table, id: u32, len: u8, d: &[u8;
 pub extern "C" fn yendrolf_table_forget(t: &mut Table, source: u8, destination: u8, k: u8) -> Told
     ensures { outcome (said_to result) t.new ≡ forgotten t.old (key_number (key_of source destination k)) }
 {
-    in_c(table::forget(t, source, destination, k))
+    let key = Key {
+        source,
+        destination,
+        k,
+    };
+    in_c(table::forget(t, key))
 }
 
 // Gives a held key another edition of the dictionary.
@@ -317,7 +323,12 @@ pub extern "C" fn yendrolf_table_set_edition(
 ) -> Told
     ensures { outcome (said_to result) t.new ≡ edited t.old (key_number (key_of source destination k)) edition }
 {
-    in_c(edition::set_edition(t, source, destination, k, edition))
+    let key = Key {
+        source,
+        destination,
+        k,
+    };
+    in_c(edition::set_edition(t, key, edition))
 }
 
 // The edition of a key, 2010 where it is not held.
@@ -325,7 +336,12 @@ pub extern "C" fn yendrolf_table_set_edition(
 pub extern "C" fn yendrolf_table_edition(t: &Table, source: u8, destination: u8, k: u8) -> u32
     ensures { result ≡ edition_in t.now (key_of source destination k) }
 {
-    lookup::edition_of(t, source, destination, k)
+    let key = Key {
+        source,
+        destination,
+        k,
+    };
+    lookup::edition_of(t, key)
 }
 
 // The number of parameters of a key's map.
@@ -333,7 +349,12 @@ pub extern "C" fn yendrolf_table_edition(t: &Table, source: u8, destination: u8,
 pub extern "C" fn yendrolf_table_count(t: &Table, source: u8, destination: u8, k: u8) -> u32
     ensures { result ≡ count_of (map_in t.now (key_of source destination k)) }
 {
-    ask::count(t, source, destination, k) as u32
+    let key = Key {
+        source,
+        destination,
+        k,
+    };
+    ask::count(t, key) as u32
 }
 
 // Judges a key's map.
@@ -341,7 +362,12 @@ pub extern "C" fn yendrolf_table_count(t: &Table, source: u8, destination: u8, k
 pub extern "C" fn yendrolf_table_judge(t: &Table, source: u8, destination: u8, k: u8) -> Told
     ensures { said_to result ≡ judged_by (width_for t.now (key_of source destination k)) (map_in t.now (key_of source destination k)) }
 {
-    in_c(ask::judge(t, source, destination, k))
+    let key = Key {
+        source,
+        destination,
+        k,
+    };
+    in_c(ask::judge(t, key))
 }
 
 // Packs numbers by a key's map.
@@ -357,7 +383,12 @@ pub extern "C" fn yendrolf_table_pack(
     ensures { outcome (said_to result) payload.new
         ≡ packed_by (width_for t.now (key_of source destination k)) (map_in t.now (key_of source destination k)) numbers.now payload.old }
 {
-    in_c(ask::pack(t, source, destination, k, numbers, payload))
+    let key = Key {
+        source,
+        destination,
+        k,
+    };
+    in_c(ask::pack(t, key, numbers, payload))
 }
 
 // Reads a payload by a key's map, and lays the state of each number beside it.
@@ -374,7 +405,12 @@ pub extern "C" fn yendrolf_table_read(
     ensures { reads (said_to result) numbers.new states.new
         ≡ read_by (width_for t.now (key_of source destination k)) (map_in t.now (key_of source destination k)) payload.now numbers.old states.old }
 {
-    let answer = ask::read(t, source, destination, k, payload, numbers, states);
+    let key = Key {
+        source,
+        destination,
+        k,
+    };
+    let answer = ask::read(t, key, payload, numbers, states);
     in_c(answer)
 }
 
@@ -389,7 +425,12 @@ pub extern "C" fn yendrolf_table_find(
 ) -> Located
     ensures { finding_to result ≡ found_by (width_for t.now (key_of source destination k)) (map_in t.now (key_of source destination k)) spn }
 {
-    found_in_c(ask::find(t, source, destination, k, spn))
+    let key = Key {
+        source,
+        destination,
+        k,
+    };
+    found_in_c(ask::find(t, key, spn))
 }
 
 // The parameter at a position of a key's map, usable or not.
@@ -403,7 +444,12 @@ pub extern "C" fn yendrolf_table_parameter_at(
 ) -> Placed
     ensures { standing_to result ≡ stands_by (width_for t.now (key_of source destination k)) (map_in t.now (key_of source destination k)) position }
 {
-    placed_in_c(ask::parameter_at(t, source, destination, k, position))
+    let key = Key {
+        source,
+        destination,
+        k,
+    };
+    placed_in_c(ask::parameter_at(t, key, position))
 }
 
 // The lowest held key.
@@ -419,7 +465,12 @@ pub extern "C" fn yendrolf_table_first_key(t: &Table) -> Held
 pub extern "C" fn yendrolf_table_next_key(t: &Table, source: u8, destination: u8, k: u8) -> Held
     ensures { result ≡ held_of (next_key t.now (key_of source destination k)) }
 {
-    key_in_c(lookup::next_key(t, source, destination, k))
+    let key = Key {
+        source,
+        destination,
+        k,
+    };
+    key_in_c(lookup::next_key(t, key))
 }
 
 // Answers a Parameter Locate: the records of our own address' maps that have the parameter, laid into `log` from byte `start` on.
@@ -478,7 +529,12 @@ pub extern "C" fn yendrolf_image_row(image: &[u8], row: usize) -> Row
 pub extern "C" fn yendrolf_image_body(image: &[u8], source: u8, destination: u8, k: u8) -> Row
     ensures { row_to result ≡ row_entry image.now (row_with image.now (key_of source destination k)) }
 {
-    row_in_c(contents::row_of(image, source, destination, k))
+    let key = Key {
+        source,
+        destination,
+        k,
+    };
+    row_in_c(contents::row_of(image, key))
 }
 
 // ---- what numbers mean
@@ -563,7 +619,12 @@ pub extern "C" fn yendrolf_hire_line(
 ) -> Counted
     ensures { line_to result ≡ line_in limit t.now acc.now (key_of source destination k) position }
 {
-    line_in_c(hire::line_of(t, acc, limit, source, destination, k, position))
+    let key = Key {
+        source,
+        destination,
+        k,
+    };
+    line_in_c(hire::line_of(t, acc, limit, key, position))
 }
 
 // ---- the filters

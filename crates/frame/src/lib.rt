@@ -26,6 +26,7 @@ pub struct Three {
     pub third: u8,
 }
 
+// Kept: shifts and masks and no bytes of the identifier: document 01 names this form.
 // The six fields, cut out by shifts and masks. (Bits above the 29 are in none of them.)
 pub fn split(id: u32) -> Fields
     ensures { result ≡ fields_of id }
@@ -47,6 +48,7 @@ pub fn split(id: u32) -> Fields
 }
 
 // One of two numbers, by a test.
+// Kept: beside `if`, as it is public; what it promises is what the check knows of an `if` that is a value.
 pub fn pick8(b: bool, x: u8, y: u8) -> u8
     ensures { result ≡ cond b x y }
 {
@@ -57,7 +59,7 @@ pub fn pick8(b: bool, x: u8, y: u8) -> u8
 pub fn pgn(f: Fields) -> u32
     ensures { result ≡ pgn_of f }
 {
-    let low = pick8(f.pf < 240, 0, f.ps);
+    let low = if f.pf < 240 { 0 } else { f.ps };
     (f.reserved as u32) * 131072 + (f.page as u32) * 65536 + (f.pf as u32) * 256 + low as u32
 }
 
@@ -65,24 +67,25 @@ pub fn pgn(f: Fields) -> u32
 pub fn destination(f: Fields) -> u8
     ensures { result ≡ destination_of f }
 {
-    pick8(f.pf < 240, f.ps, 255)
+    if f.pf < 240 { f.ps } else { 255 }
 }
 
 // Three bytes as one number, the least significant first.
 pub fn number_of(b: Three) -> u32
     ensures { result ≡ three_of b }
 {
-    (b.first as u32) + (b.second as u32) * 256 + (b.third as u32) * 65536
+    u32::from_le_bytes([b.first, b.second, b.third, 0])
 }
 
 // The three bytes of a PGN; bits above the 24 are not sent.
 pub fn pgn_bytes(pgn: u32) -> Three
     ensures { result ≡ pgn_bytes pgn }
 {
+    let [first, second, third, _] = pgn.to_le_bytes();
     Three {
-        first: (pgn % 256) as u8,
-        second: (pgn / 256 % 256) as u8,
-        third: (pgn / 65536 % 256) as u8,
+        first,
+        second,
+        third,
     }
 }
 
@@ -90,10 +93,11 @@ pub fn pgn_bytes(pgn: u32) -> Three
 pub fn spn_bytes(spn: u32, rest: u8) -> Three
     ensures { result ≡ spn_bytes spn rest }
 {
+    let [first, second, third, _] = spn.to_le_bytes();
     Three {
-        first: (spn % 256) as u8,
-        second: (spn / 256 % 256) as u8,
-        third: (spn / 65536 % 8 * 32) as u8 + rest % 32,
+        first,
+        second,
+        third: third % 8 * 32 + rest % 32,
     }
 }
 
@@ -101,7 +105,7 @@ pub fn spn_bytes(spn: u32, rest: u8) -> Three
 pub fn spn_of(b: Three) -> u32
     ensures { result ≡ spn_of b }
 {
-    (b.first as u32) + (b.second as u32) * 256 + (b.third as u32 / 32) * 65536
+    u32::from_le_bytes([b.first, b.second, b.third / 32, 0])
 }
 
 // The five bits that the SPN leaves.

@@ -9,7 +9,7 @@ ghost use Rattle.hired.specs.Bytes.{SomeHire};
 
 use feeding::Tally;
 use lookup::{Table, WORDS};
-use reading::Taken;
+use reading::{Flow, Taken};
 use std::io::Result;
 use std::process::ExitCode;
 use std::rt::Clock;
@@ -54,8 +54,7 @@ fn feed_on<R: Input + Clock + Eprint>(rt: &R, t: &mut Table, acc: &mut Cells, ta
     let tally = hire::feed(t, acc, LIMIT, tally, &buffer[..n]);
     Taken {
         tally,
-        more: chunk.more,
-        whole: chunk.whole,
+        flow: chunk.flow,
     }
 }
 
@@ -66,14 +65,16 @@ fn read_log<R: Input + Clock + Eprint>(rt: &R, t: &mut Table, acc: &mut Cells, s
     let tally = feeding::start();
     let mut taken = Taken {
         tally,
-        more: true,
-        whole: true,
+        flow: Flow::More,
     };
     let mut turns = 0;
-    while turns < u64::MAX && taken.more {
+    for turn in 0..u64::MAX {
+        if taken.flow != Flow::More {
+            break;
+        }
         let tally = taken.tally;
         taken = feed_on(rt, t, acc, tally);
-        turns += 1;
+        turns = turn + 1;
         let tally = taken.tally;
         show(rt, shown, turns, tally);
     }
@@ -97,7 +98,7 @@ fn main(rt: HostRuntime) -> ExitCode {
     let written = print(&rt, &t, &acc, tally);
     reading::ended(
         &rt,
-        log.whole,
+        log.flow != Flow::Failed,
         written,
         b"hire: the report could not be written",
     )

@@ -10,8 +10,9 @@
 #![tactic(auto)]
 
 use feeding::Tally;
-use lines::{STDIN_FILENO, STDOUT_FILENO, end, first, four, front, longs, more, two};
+use lines::{STDIN_FILENO, eight, end, first, four, front, more, numbers, two};
 use lookup::{Table, WORDS};
+use message::Key;
 use tally::Cells;
 
 // The words of a row of cells.
@@ -43,55 +44,53 @@ fn feed(t: &mut Table, acc: &mut Cells, limit: u32, tally: Tally, size: usize) -
     Hire { limit, tally }
 }
 
+// The key that a case names.
+fn key_in(b: &[u8; 16]) -> Key {
+    Key {
+        source: b[1],
+        destination: b[2],
+        k: b[3],
+    }
+}
+
 fn line(t: &Table, acc: &Cells, limit: u32, b: &[u8; 16]) {
-    let l = hire::line_of(t, acc, limit, b[1], b[2], b[3], b[4]);
+    let l = hire::line_of(t, acc, limit, key_in(b), b[4]);
     let answer = l.answer;
     let judgement = answer.judgement;
     let cell = l.cell;
     first(answer.number);
     more(answer.detail);
-    more(answers::number_of(judgement) as u32);
-    more(answers::position_of(judgement) as u32);
+    more(answers::number_of(judgement));
+    more(answers::position_of(judgement));
     more(l.spn);
-    longs(&[
+    numbers(&[
         cell.read,
         cell.valid,
         cell.reserved,
         cell.error,
         cell.missing,
     ]);
-    longs(&[cell.least, cell.greatest, cell.sum]);
+    numbers(&[cell.least, cell.greatest, cell.sum]);
     end();
 }
 
 // A word of eight bytes from byte 3 on.
 fn word(b: &[u8; 16]) -> u64 {
-    four(b[3], b[4], b[5], b[6]) as u64 + four(b[7], b[8], b[9], b[10]) as u64 * 4294967296
-}
-
-fn put_cell(acc: &mut Cells, at: usize, word: u64) {
-    if at < tally::WORDS {
-        acc[at] = word;
-    }
-}
-
-fn put_word(t: &mut Table, at: usize, word: u64) {
-    if at < WORDS {
-        t[at] = word;
-    }
+    u64::from_le_bytes(eight(b, 3))
 }
 
 fn cells(acc: &Cells, row: u8) {
     let words = &acc[..];
     let from = row as usize % 16 * ROW;
-    io::print_decimal(STDOUT_FILENO, words[from]);
-    longs(&words[from + 1..from + ROW]);
+    first(words[from]);
+    numbers(&words[from + 1..from + ROW]);
     end();
 }
 
 fn run<P: Print>(out: &P, t: &mut Table, acc: &mut Cells, h: Hire, b: &[u8; 16]) -> Hire {
     let limit = h.limit;
     let tally = h.tally;
+    // Kept: a number, since the tag is a byte of the files that tests/model.py writes (tests/README.md).
     match b[0] {
         0 => return start(t, acc, four(b[1], b[2], b[3], b[4])),
         1 => return feed(t, acc, limit, tally, two(b[1], b[2])),
@@ -99,8 +98,8 @@ fn run<P: Print>(out: &P, t: &mut Table, acc: &mut Cells, h: Hire, b: &[u8; 16])
         3 => {
             let _ = reporting::write_all(out, t, acc, limit, tally);
         }
-        4 => put_cell(acc, two(b[1], b[2]), word(b)),
-        5 => put_word(t, two(b[1], b[2]), word(b)),
+        4 => lines::put(acc, two(b[1], b[2]), word(b)),
+        5 => lines::put(t, two(b[1], b[2]), word(b)),
         _ => cells(acc, b[1]),
     }
     Hire { limit, tally }
@@ -111,11 +110,7 @@ fn main(rt: HostRuntime) {
     let mut t = [0u64; WORDS];
     let mut acc = [0u64; tally::WORDS];
     let mut h = start(&mut t, &mut acc, 0);
-    let mut b = [0u8; 16];
-    for _ in 0..u64::MAX {
-        if !lines::case(&mut b) {
-            break;
-        }
+    for b in (0..u64::MAX).map_while(|_| lines::next_case()) {
         h = run(&rt, &mut t, &mut acc, h, &b);
     }
 }

@@ -11,62 +11,50 @@
 //   7 key, edition                   gives the key that edition; no line
 #![tactic(auto)]
 
-use lines::{STDIN_FILENO, bytes, end, first, four, front, long, more, two};
-use lookup::{Next, Table, WORDS};
+use lines::{STDIN_FILENO, bytes, eight, end, first, four, front, more, two};
+use lookup::{Table, WORDS};
 use message::Key;
 
 fn saved(t: &Table, out: &mut [u8]) {
     let a = save::save(t, out);
     first(a.number);
     more(a.detail);
-    long(save::size(t) as u64);
+    more(save::size(t) as u64);
     bytes(out);
     end();
 }
 
 // A key as the listing has it, and its edition.
 fn judged(t: &Table, key: Key) {
-    let a = ask::judge(t, key.source, key.destination, key.k);
+    let a = ask::judge(t, key);
     let j = a.judgement;
-    more(key.source as u32);
-    more(key.destination as u32);
-    more(key.k as u32);
-    more(ask::count(t, key.source, key.destination, key.k) as u32);
-    more(answers::number_of(j) as u32);
-    more(answers::position_of(j) as u32);
-    more(lookup::edition_of(t, key.source, key.destination, key.k));
+    more(key.source);
+    more(key.destination);
+    more(key.k);
+    more(ask::count(t, key));
+    more(answers::number_of(j));
+    more(answers::position_of(j));
+    more(lookup::edition_of(t, key));
 }
 
-// The key, where there is one, and the next.
-fn after(t: &Table, n: Next) -> Next {
-    match n {
-        Next::Found(key) => {
-            judged(t, key);
-            lookup::next_key(t, key.source, key.destination, key.k)
-        }
-        Next::NoMore => Next::NoMore,
-    }
-}
-
-// The held keys; 16 at most, so that as many turns show all of them.
+// The held keys behind the answer.
 fn loaded(t: &mut Table, image: &[u8]) {
     let a = load::load(t, image);
     first(a.number);
-    let mut at = lookup::first_key(t);
-    for _ in 0..16 {
-        at = after(t, at);
+    for key in lookup::keys(t) {
+        judged(t, key);
     }
     end();
 }
 
-fn asked(image: &[u8], source: u8, destination: u8, k: u8) {
-    let a = contents::asked(image, source, destination, k);
-    let listed = contents::row_of(image, source, destination, k);
+fn asked(image: &[u8], key: Key) {
+    let a = contents::asked(image, key);
+    let listed = contents::row_of(image, key);
     first(a.number);
-    long(listed.offset as u64);
-    long(listed.size as u64);
+    more(listed.offset as u64);
+    more(listed.size as u64);
     more(listed.edition);
-    bytes(contents::body(image, source, destination, k));
+    bytes(contents::body(image, key));
     end();
 }
 
@@ -75,20 +63,27 @@ fn row(image: &[u8], i: usize) {
     let listed = contents::row(image, i);
     let key = contents::row_key(image, i);
     first(a.number);
-    more(key.source as u32);
-    more(key.destination as u32);
-    more(key.k as u32);
-    long(listed.offset as u64);
-    long(listed.size as u64);
+    more(key.source);
+    more(key.destination);
+    more(key.k);
+    more(listed.offset as u64);
+    more(listed.size as u64);
     more(listed.edition);
     bytes(contents::row_body(image, i));
     end();
 }
 
+// The key that a case names.
+fn key_in(b: &[u8; 16]) -> Key {
+    Key {
+        source: b[1],
+        destination: b[2],
+        k: b[3],
+    }
+}
+
 fn row_number(b: &[u8; 16]) -> usize {
-    let low = four(b[1], b[2], b[3], b[4]) as usize;
-    let high = four(b[5], b[6], b[7], b[8]) as usize;
-    low + high * 4294967296
+    usize::from_le_bytes(eight(b, 1))
 }
 
 fn with_bytes(t: &mut Table, b: &[u8; 16], behind: &mut [u8]) {
@@ -96,7 +91,7 @@ fn with_bytes(t: &mut Table, b: &[u8; 16], behind: &mut [u8]) {
     match b[0] {
         3 => saved(t, behind),
         4 => loaded(t, behind),
-        5 => asked(behind, b[1], b[2], b[3]),
+        5 => asked(behind, key_in(b)),
         _ => row(behind, row_number(b)),
     }
 }
@@ -109,21 +104,18 @@ fn lend(t: &mut Table, b: &[u8; 16]) {
 }
 
 fn run(t: &mut Table, b: &[u8; 16]) {
+    // Kept: a number, since the tag is a byte of the files that tests/model.py writes (tests/README.md).
     match b[0] {
         0 => table::empty(t),
         1 => {
-            table::learn(
-                t,
-                four(b[1], b[2], b[3], b[4]),
-                b[5],
-                &[b[6], b[7], b[8], b[9], b[10], b[11], b[12], b[13]],
-            );
+            let d = eight(b, 6);
+            table::learn(t, four(b[1], b[2], b[3], b[4]), b[5], &d);
         }
         2 => {
-            table::forget(t, b[1], b[2], b[3]);
+            table::forget(t, key_in(b));
         }
         7 => {
-            edition::set_edition(t, b[1], b[2], b[3], four(b[4], b[5], b[6], b[7]));
+            edition::set_edition(t, key_in(b), four(b[4], b[5], b[6], b[7]));
         }
         _ => lend(t, b),
     }
@@ -133,11 +125,7 @@ fn run(t: &mut Table, b: &[u8; 16]) {
 fn main() {
     let mut t = [0u64; WORDS];
     table::empty(&mut t);
-    let mut b = [0u8; 16];
-    for _ in 0..u64::MAX {
-        if !lines::case(&mut b) {
-            break;
-        }
+    for b in (0..u64::MAX).map_while(|_| lines::next_case()) {
         run(&mut t, &b);
     }
 }

@@ -2,7 +2,7 @@
 -- nothing.
 use Prim.Native.Nat.{ℕ, zero, suc, ◌+◌, ◌%◌, ◌≤◌, ◌<◌}
 use mathlib.Core.Path.{◌≡◌, refl, sym, ap, ◌∙◌}
-use mathlib.Core.Bool.{Bool, false, not, ◌&&◌, ◌||◌}
+use mathlib.Core.Bool.{Bool, true, false, cond, not, ◌&&◌, ◌||◌, true≢false}
 use mathlib.Core.List.{List, []}
 use native.Mathlib.Decide.{dec_lt, ℕ_discrete}
 use native.Mathlib.Omega.{arith}
@@ -10,9 +10,10 @@ use borrow.Author.Tests.{lt-leb, lt-ltb, le-ltb, ne_eqb, eqb-false}
 use lib.Dec.{eqb}
 use lib.ListN.{length, get_or, set}
 use lib.Seq.{get_or-set_same, get_or-set_other}
-use Rattle.words.specs.First.{any, lowest}
+use Rattle.std.proofs.Common.{Some, None}
+use Rattle.words.specs.First.{any}
 use Rattle.words.proofs.Tests.{test}
-use Rattle.words.proofs.Lowest.{None, neither, any_none, any-more, lowest_none, lowest-each}
+use Rattle.words.proofs.Lowest.{None as Passing, neither, any_none, any-more, any-each, lowest_none}
 use Rattle.places.specs.Place.{odd, shares_bit, end_in, end_to}
 use Rattle.places.proofs.Place.{shares_after, end_runs, end_le, clear_after}
 use Rattle.judge.specs.Judge.{mark, number_at, shortest, marked, unknown, repeated, not_above, uneven, overlaps, beyond}
@@ -69,24 +70,26 @@ module _ (s w : ℕ) where
   broken_wide l = rw (ne_eqb w 0 (λ e. omega (arith, e, l)), lt-ltb 8 w l)
 
 -- ---- the marks
-module _ (seen spns : List ℕ) (i : ℕ) (passed : Passed seen spns i) where
+module _ (seen : List Bool) (spns : List ℕ) (i : ℕ) (passed : Passed seen spns i) where
   -- one SPN more is passed
-  pub pass_one : number_at spns i % 256 < length seen → Passed (set seen (number_at spns i % 256) 1) spns (i + 1)
+  pub pass_one : number_at spns i % 256 < length seen → Passed (set seen (number_at spns i % 256) true) spns (i + 1)
   pass_one h j l = go (ℕ_discrete (number_at spns j % 256) (number_at spns i % 256)) (dec_lt j i)
     where
-      go : Dec (number_at spns j % 256 ≡ number_at spns i % 256) → Dec (j < i) → get_or (set seen (number_at spns i % 256) 1) (number_at spns j % 256) 0 ≡ 1
-      go (yes e) d = rw e (get_or-set_same seen _ 1 0 h)
-      go (no e) (yes m) = get_or-set_other seen _ _ 1 0 e ∙ passed j m
+      go : Dec (number_at spns j % 256 ≡ number_at spns i % 256) → Dec (j < i) → get_or (set seen (number_at spns i % 256) true) (number_at spns j % 256) false ≡ true
+      go (yes e) d = rw e (get_or-set_same seen _ true false h)
+      go (no e) (yes m) = get_or-set_other seen _ _ true false e ∙ passed j m
       go (no e) (no m) = absurd (e (ap (λ (k : ℕ). number_at spns k % 256) (omega arith)))
 
   -- an SPN whose mark is not set was not passed
-  pub not_passed : get_or seen (number_at spns i % 256) 0 ≡ 0 → repeated (number_at spns) i ≡ false
-  not_passed z = any_none _ i (λ j l. ne_eqb _ _ (λ e. absurd (differ (sym (passed j l) ∙ ap (λ (k : ℕ). get_or seen (k % 256) 0) e ∙ z))))
-    where
-      differ : ◌≡◌ {A = ℕ} 1 0 → ⊥
-      differ e = omega (arith, e)
+  pub not_passed : get_or seen (number_at spns i % 256) false ≡ false → repeated (number_at spns) i ≡ false
+  not_passed z = any_none _ i (λ j l. ne_eqb _ _ (λ e. true≢false (sym (passed j l) ∙ ap (λ (k : ℕ). get_or seen (k % 256) false) e ∙ z)))
 
 -- ---- where none is broken
+
+-- what the walk's answer says
+pub walked : (b : Bool) (end most : ℕ) → Some end ≡ cond b None (Some most) → (b ≡ false) × (end ≡ most)
+walked true end most e = cc
+walked false end most e = (refl, cc)
 
 -- what a position is that no rule but 7 applies to
 pub record Unbroken (spns starts widths : List ℕ) (i : ℕ) : Type 0 where
@@ -107,17 +110,17 @@ unbroken spns starts widths i e =
     record { known = known; there = there; once = b; rising = c; even = odd; apart = d }
 
 -- so each has a width
-pub wide : (spns starts widths : List ℕ) (i : ℕ) → None (broken spns starts widths) i → Wide widths i
+pub wide : (spns starts widths : List ℕ) (i : ℕ) → Passing (broken spns starts widths) i → Wide widths i
 wide spns starts widths i none j l =
     let some = eqb-false (number_at widths j) 0 (unbroken spns starts widths j (none j l)).known in
     omega (arith, some)
 
 module _
     (n : ℕ) (transport : Bool) (spns starts widths : List ℕ) (long : n ≤ shortest spns starts widths)
-    (none : lowest (broken spns starts widths) n ≡ 0) (within : end_to starts widths n ≤ 14280)
+    (none : any (broken spns starts widths) n ≡ false) (within : end_to starts widths n ≤ 14280)
   where
     each : (i : ℕ) → i < n → Unbroken spns starts widths i
-    each i l = unbroken spns starts widths i (lowest-each (broken spns starts widths) n none i l)
+    each i l = unbroken spns starts widths i (any-each (broken spns starts widths) n none i l)
 
     here : (i : ℕ) → i < n → marked (shortest spns starts widths) widths i ≡ false
     here i l = rw (lt-leb (shortest spns starts widths) i (omega arith)) (each i l).there
@@ -126,12 +129,14 @@ module _
     ends i l = le-ltb 14280 (end_in starts widths i) (omega (arith, within, end_le starts widths i n l))
 
     pub all_clear : Left n transport spns starts widths []
-    all_clear =
-        plainly n transport spns starts widths
-        ∙ skip 2 _ _ _ _ refl (lowest_none _ n here)
-        ∙ skip 3 _ _ _ _ refl (lowest_none _ n (λ i l. (each i l).known))
-        ∙ skip 4 _ _ _ _ refl (lowest_none _ n (λ i l. (each i l).once))
-        ∙ skip 5 _ _ _ _ refl (lowest_none _ n (λ i l. (each i l).rising))
-        ∙ skip 9 _ _ _ _ refl (lowest_none _ n (λ i l. (each i l).even))
-        ∙ skip 6 _ _ _ _ refl (lowest_none _ n (λ i l. (each i l).apart))
-        ∙ skip 7 _ _ _ _ refl (lowest_none _ n ends)
+    all_clear = record {
+      is =
+          plainly n transport spns starts widths
+          ∙ skip 2 _ _ _ (lowest_none _ n here)
+          ∙ skip 3 _ _ _ (lowest_none _ n (λ i l. (each i l).known))
+          ∙ skip 4 _ _ _ (lowest_none _ n (λ i l. (each i l).once))
+          ∙ skip 5 _ _ _ (lowest_none _ n (λ i l. (each i l).rising))
+          ∙ skip 9 _ _ _ (lowest_none _ n (λ i l. (each i l).even))
+          ∙ skip 6 _ _ _ (lowest_none _ n (λ i l. (each i l).apart))
+          ∙ skip 7 _ _ _ (lowest_none _ n ends);
+    }

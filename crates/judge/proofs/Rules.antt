@@ -31,11 +31,12 @@ pub record Named (n : ℕ) (j : Judged) : Type 0 where
 
 -- ---- the list
 
--- a search's answer r is 0 where its rule names no position: the rest decides; elsewhere it is the judgement's position
-pub skip : (k r x : ℕ) (rs : List Judged) (last : Judged) → r ≡ x → r ≡ 0 → first_named (at k x ∷ rs) last ≡ first_named rs last
+-- a rule that names no position is passed: the rest decides
+pub skip : (k x : ℕ) (rs : List Judged) (last : Judged) → x ≡ 0 → first_named (at k x ∷ rs) last ≡ first_named rs last
 unfolding first_named
-skip k r x rs last e z = rw (eq-eqb x 0 (sym e ∙ z))
+skip k x rs last z = rw (eq-eqb x 0 z)
 
+-- one that names a position, which is r, is the judgement
 pub stop : (k r x : ℕ) (rs : List Judged) (last : Judged) → r ≡ x → (r ≡ 0 → ⊥) → first_named (at k x ∷ rs) last ≡ at k r
 unfolding first_named
 stop k r x rs last e h = rw (ne_eqb x 0 (λ z. h (e ∙ z))) (ap (at k) (sym e))

@@ -9,6 +9,7 @@ use native.Mathlib.Omega.{arith}
 use borrow.Author.Tests.{eqb-true, eqb-false, le-leb, lt-leb}
 use lib.Dec.{eqb}
 use lib.ListN.{length}
+use Rattle.std.proofs.Common.{Some, None}
 use Rattle.answers.specs.Answers.{Judged, at}
 use Rattle.words.specs.Lists.{tabulate}
 use Rattle.words.specs.First.{lowest}
@@ -17,7 +18,9 @@ use Rattle.words.proofs.Lowest.{lowest-each, lowest_none, lowest_equal}
 use Rattle.words.proofs.Lists.{length-tabulate, get_tabulate}
 use Rattle.judge.specs.Judge.{Param, missing, unknown, repeated, not_above, uneven, overlaps, beyond, wrong_transport, first_named, size_over, judge_over, mark, shortest, marked, number_at, in_slices}
 use Rattle.words.proofs.Tests.{test, never}
-use Rattle.judge.proofs.Rules.{stop}
+use Rattle.judge.specs.Walk.{found}
+use Rattle.judge.proofs.Search.{is_found, not_found}
+use Rattle.judge.proofs.Rules.{skip, stop}
 use Rattle.judge.proofs.Within.{judged-same}
 
 -- ---- what slices say of a position, by index
@@ -32,10 +35,9 @@ module _ (spns starts widths : List ℕ) (i : ℕ) where
   pub slices_past : shortest spns starts widths ≤ i → in_slices spns starts widths (suc i) ≡ none
   slices_past l = rw (le-leb (shortest spns starts widths) i l)
 
--- where none of n positions is missing, all three slices have them; r is what the search answered
-pub reaches : (spns starts widths : List ℕ) (n r : ℕ) → r ≡ lowest (marked (shortest spns starts widths) widths) n → r ≡ 0
-    → (n ≤ length spns) × (n ≤ length starts) × (n ≤ length widths)
-reaches spns starts widths n r e z = go (shortest spns starts widths) refl (sym e ∙ z)
+-- where none of n positions is missing, all three slices have them
+pub reaches : (spns starts widths : List ℕ) (n : ℕ) → lowest (marked (shortest spns starts widths) widths) n ≡ 0 → (n ≤ length spns) × (n ≤ length starts) × (n ≤ length widths)
+reaches spns starts widths n e = go (shortest spns starts widths) refl e
   where
     go : (long : ℕ) → shortest spns starts widths ≡ long → lowest (marked long widths) n ≡ 0 → (n ≤ length spns) × (n ≤ length starts) × (n ≤ length widths)
     go long q f =
@@ -52,28 +54,21 @@ end_equal ss ws xs ys (suc n) h = ap₂ max (end_equal ss ws xs ys n (λ i l. h 
 
 -- ---- the rules
 module _ (n : ℕ) (transport : Bool) (spns starts widths : List ℕ) where
-  -- 2 to 7 in order, 9 before 6, by what the slices hold: the list from each rule on
-  abbrev pub from7 : List Judged
-  from7 = at 7 (lowest (beyond (number_at starts) (number_at widths)) n) ∷ []
-
-  abbrev pub from6 : List Judged
-  from6 = at 6 (lowest (overlaps (number_at starts) (number_at widths)) n) ∷ from7
-
-  abbrev pub from9 : List Judged
-  from9 = at 9 (lowest (uneven (number_at starts) (number_at widths)) n) ∷ from6
-
-  abbrev pub from5 : List Judged
-  from5 = at 5 (lowest (not_above (number_at starts)) n) ∷ from9
-
-  abbrev pub from4 : List Judged
-  from4 = at 4 (lowest (repeated (number_at spns)) n) ∷ from5
-
-  abbrev pub from3 : List Judged
-  from3 = at 3 (lowest (unknown (number_at widths)) n) ∷ from4
+  -- 3 to 7 in order, 9 before 6, by what the slices hold
+  abbrev from3 : List Judged
+  from3 =
+      at 3 (lowest (unknown (number_at widths)) n)
+      ∷ at 4 (lowest (repeated (number_at spns)) n)
+      ∷ at 5 (lowest (not_above (number_at starts)) n)
+      ∷ at 9 (lowest (uneven (number_at starts) (number_at widths)) n)
+      ∷ at 6 (lowest (overlaps (number_at starts) (number_at widths)) n)
+      ∷ at 7 (lowest (beyond (number_at starts) (number_at widths)) n)
+      ∷ []
 
   abbrev absent : ℕ → Bool
   absent = marked (shortest spns starts widths) widths
 
+  -- and 2 before them
   abbrev pub from2 : List Judged
   from2 = at 2 (lowest absent n) ∷ from3
 
@@ -111,12 +106,28 @@ module _ (n : ℕ) (transport : Bool) (spns starts widths : List ℕ) where
       judged-same n (in_slices spns starts widths) whole (λ i l. rw (here i l)) transport ∙ whole_is here)
       (λ f. let q = eqb-false (lowest absent n) 0 f in stop 2 _ _ _ _ (sym missing-is) q ∙ sym (stop 2 _ _ _ _ refl q))
 
-  -- the rules before a place in the list name no position, so the judgement is that of the rest
-  abbrev pub Left : List Judged → Type 0
-  Left rs = judge_over n transport (in_slices spns starts widths) ≡ first_named rs plain_last
+-- ---- rule after rule
+
+infixl 50 ◌past◌
+-- the rules before a place in the list name no position, so the judgement is that of the rest
+pub record Left (n : ℕ) (transport : Bool) (spns starts widths : List ℕ) (rs : List Judged) : Type 0 where
+  pub is : judge_over n transport (in_slices spns starts widths) ≡ first_named rs (plain_last n transport spns starts widths)
+
+-- at first all rules are left
+pub all_left : (n : ℕ) (transport : Bool) (spns starts widths : List ℕ) → Left n transport spns starts widths (from2 n transport spns starts widths)
+all_left n transport spns starts widths = record { is = plainly n transport spns starts widths }
+
+module _ {n : ℕ} {transport : Bool} {spns starts widths : List ℕ} where
+  -- a search that finds no position: its rule is passed
+  pub ◌past◌ : {k x : ℕ} {rs : List Judged} → Left n transport spns starts widths (at k x ∷ rs) → None ≡ found x → Left n transport spns starts widths rs
+  ◌past◌ {k} {x} {rs} left e = record { is = left.is ∙ skip k x rs _ (not_found x e) }
+
+  -- one that finds a position: that is the judgement
+  pub decides : {k x : ℕ} {rs : List Judged} {p : ℕ} → Left n transport spns starts widths (at k x ∷ rs) → Some p ≡ found x → at k p ≡ judge_over n transport (in_slices spns starts widths)
+  decides {k} {x} {rs} {p} left e = let (q, h) = is_found p x e in sym (left.is ∙ stop k p x rs _ q h)
 
   -- where no rule names a position, the transport flag and L decide
-  pub last-is : Left [] → (end : ℕ) (j : Judged) → end ≡ end_to starts widths n
+  pub last-is : Left n transport spns starts widths [] → (end : ℕ) (j : Judged) → end ≡ end_to starts widths n
       → j ≡ at (cond (wrong_transport transport (bytes_for end)) 8 0) 0 → j ≡ judge_over n transport (in_slices spns starts widths)
   unfolding first_named
-  last-is left end j e f = f ∙ ap (λ (x : ℕ). at (cond (wrong_transport transport (bytes_for x)) 8 0) 0) e ∙ sym left
+  last-is left end j e f = f ∙ ap (λ (x : ℕ). at (cond (wrong_transport transport (bytes_for x)) 8 0) 0) e ∙ sym left.is

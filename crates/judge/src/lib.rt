@@ -1,50 +1,41 @@
 // Judging a map that stands in plain slices of SPNs, starts and widths (01, "A set and its judgement"; 02, Req 04). The slices may have any length and
-// hold anything; what they stand for is `in_slices`. In each search the count says what holds of the positions that were passed.
+// hold anything; what they stand for is `in_slices`. A rule is a test of one position, which one search asks of each in turn.
 #![tactic(auto)]
 
-ghost use Rattle.std.specs.Prelude.{◌≡◌, ◌-◌, ◌%◌, ◌≤◌, ◌<◌, min, max, cond, ltb, length};
-ghost use Rattle.answers.specs.Answers.{said_of};
-ghost use Rattle.words.specs.First.{lowest};
+ghost use Rattle.std.specs.Prelude.{◌≡◌, ◌-◌, ◌%◌, ◌≤◌, ◌<◌, Some, None, cond, ltb, length};
+ghost use Rattle.answers.specs.Answers.{said_of, at};
+ghost use Rattle.words.specs.First.{any, lowest as lowest_of};
 ghost use Rattle.places.specs.Place.{shares_bit, end_in, end_to, bytes_for};
-ghost use Rattle.answers.specs.Answers.{at};
 ghost use Rattle.judge.specs.Judge.{number_at, shortest as shortest_of, marked, unknown, repeated, not_above, uneven, overlaps, wrong_transport, judge_over, in_slices};
-ghost use Rattle.judge.specs.Walk.{rule_at, Wide, Passed, broken_by, crossing, broken};
+ghost use Rattle.judge.specs.Walk.{found, Finds, Wide, Passed, broken_by, crossing, broken};
 
 use answers::Judgement;
 
 // The width that says "nothing stands at this position".
+// Kept: a number, and no Option: `in_slices` and `opened_by`, which the promises of `judge` and `open` cite, have this number in the list of widths.
 pub const MISSING: u32 = 0xffff_ffff;
 
-// A rule that names a position which all three slices have, in the order of the tests.
-#[derive(Clone, Copy)]
-enum Rule {
-    Unknown,
-    Repeated,
-    NotAbove,
-    Uneven,
-    Overlaps,
-    Beyond,
+// The lowest position whose index a test picks, of the first n.
+fn lowest<F: Fn(u8) -> bool>(n: u8, picks: F) -> Option<u8>
+    requires { (i : _) → i < n → F.pre picks i }
+    ensures { Finds (F.post picks) n result }
+{
+    for i in 0..n {
+        if picks(i) {
+            return Some(i + 1);
+        }
+    }
+    None
 }
 
-// The smaller of two numbers.
-fn smaller(a: usize, b: usize) -> usize
-    ensures { result ≡ min a b }
-{
-    if a < b { a } else { b }
-}
-
-// The larger of two numbers.
-fn larger(a: u64, b: u64) -> u64
-    ensures { result ≡ max a b }
-{
-    if a < b { b } else { a }
-}
+// ---- what may be missing
 
 // How many positions all three slices have.
+// Kept: three slices and n, no `Listed`: up to where this is asked, and where a position is missing, any of them may end before n.
 fn shortest(spns: &[u32], starts: &[u32], widths: &[u32]) -> usize
     ensures { result ≡ shortest_of spns.now starts.now widths.now }
 {
-    smaller(spns.len(), smaller(starts.len(), widths.len()))
+    spns.len().min(starts.len().min(widths.len()))
 }
 
 // What stands at index i.
@@ -60,98 +51,18 @@ fn is_missing(long: usize, widths: &[u32], i: u8) -> bool
     requires { long ≤ length widths.now }
     ensures { result ≡ marked long widths.now i }
 {
-    if long <= i as usize {
-        return true;
-    }
-    number_at(widths, i) == MISSING
+    (long <= i as usize) || number_at(widths, i) == MISSING
 }
 
-// The lowest position that is missing, or 0.
-fn lowest_missing(n: u8, spns: &[u32], starts: &[u32], widths: &[u32]) -> u8
-    ensures { result ≡ lowest (marked (shortest_of spns.now starts.now widths.now) widths.now) n }
+// The lowest position that is missing.
+fn lowest_missing(n: u8, spns: &[u32], starts: &[u32], widths: &[u32]) -> Option<u8>
+    ensures { result ≡ found (lowest_of (marked (shortest_of spns.now starts.now widths.now) widths.now) n) }
 {
     let long = shortest(spns, starts, widths);
-    let mut there = 0;
-    while there < n {
-        if is_missing(long, widths, there) {
-            return there + 1;
-        }
-        there += 1;
-    }
-    0
+    lowest(n, |i| is_missing(long, widths, i))
 }
 
-// Whether the SPN at index i stands at a lower one too.
-fn is_repeated(spns: &[u32], i: u8) -> bool
-    requires { i < length spns.now }
-    ensures { result ≡ repeated (number_at spns.now) i }
-{
-    let spn = number_at(spns, i);
-    let mut others = 0;
-    while others < i {
-        if number_at(spns, others) == spn {
-            return true;
-        }
-        others += 1;
-    }
-    false
-}
-
-// Whether the start at index i is not above the one before; the first has none before it.
-fn is_not_above(starts: &[u32], i: u8) -> bool
-    requires { i < length starts.now }
-    ensures { result ≡ not_above (number_at starts.now) i }
-{
-    if i == 0 {
-        return false;
-    }
-    number_at(starts, i) <= number_at(starts, i - 1)
-}
-
-// Whether the parameter at index i has an odd width and starts at no multiple of 8.
-fn is_uneven(starts: &[u32], widths: &[u32], i: u8) -> bool
-    requires { (i < length starts.now) × (i < length widths.now) }
-    ensures { result ≡ uneven (number_at starts.now) (number_at widths.now) i }
-{
-    places::is_odd(number_at(widths, i)) & (number_at(starts, i) % 8 != 0)
-}
-
-// Whether the parameters at indices i and j share a bit.
-fn share(starts: &[u32], widths: &[u32], i: u8, j: u8) -> bool
-    requires { (i < length starts.now) × (i < length widths.now) × (j < length starts.now) × (j < length widths.now) }
-    ensures { result ≡ shares_bit (number_at starts.now i) (number_at widths.now i)
-        (number_at starts.now j) (number_at widths.now j) }
-{
-    places::shares(
-        number_at(starts, i),
-        number_at(widths, i),
-        number_at(starts, j),
-        number_at(widths, j),
-    )
-}
-
-// Whether the parameter at index i shares a bit with an earlier one.
-fn shares_earlier(starts: &[u32], widths: &[u32], i: u8) -> bool
-    requires { (i < length starts.now) × (i < length widths.now) }
-    ensures { result ≡ overlaps (number_at starts.now) (number_at widths.now) i }
-{
-    let mut others = 0;
-    while others < i {
-        if share(starts, widths, others, i) {
-            return true;
-        }
-        others += 1;
-    }
-    false
-}
-
-// The end of the parameter at index i.
-fn end_at(starts: &[u32], widths: &[u32], i: u8) -> u64
-    requires { (i < length starts.now) × (i < length widths.now) }
-    ensures { result ≡ end_in starts.now widths.now i }
-{
-    places::end_bit(number_at(starts, i), number_at(widths, i))
-}
+// ---- the rules of one position
 
 // Whether an end is above 14,280.
 fn is_beyond(end: u64) -> bool
@@ -160,49 +71,97 @@ fn is_beyond(end: u64) -> bool
     14280 < end
 }
 
-// Whether a rule applies at index i.
-fn applies(rule: Rule, spns: &[u32], starts: &[u32], widths: &[u32], i: u8) -> bool
-    requires { (i < length spns.now) × (i < length starts.now) × (i < length widths.now) }
-    ensures { result ≡ rule_at rule spns.now starts.now widths.now i }
-{
-    match rule {
-        Rule::Unknown => number_at(widths, i) == 0,
-        Rule::Repeated => is_repeated(spns, i),
-        Rule::NotAbove => is_not_above(starts, i),
-        Rule::Uneven => is_uneven(starts, widths, i),
-        Rule::Overlaps => shares_earlier(starts, widths, i),
-        Rule::Beyond => is_beyond(end_at(starts, widths, i)),
-    }
+// The parameters at n positions that all three slices have.
+#[derive(Clone, Copy)]
+struct Listed<'a> {
+    n: u8,
+    spns: &'a [u32],
+    starts: &'a [u32],
+    widths: &'a [u32],
+    ghost has_spns: { n ≤ length spns.now },
+    ghost has_starts: { n ≤ length starts.now },
+    ghost has_widths: { n ≤ length widths.now },
 }
 
-// The lowest position that a rule applies to, or 0.
-fn lowest_by(rule: Rule, n: u8, spns: &[u32], starts: &[u32], widths: &[u32]) -> u8
-    requires { (n ≤ length spns.now) × (n ≤ length starts.now) × (n ≤ length widths.now) }
-    ensures { result ≡ lowest (rule_at rule spns.now starts.now widths.now) n }
-{
-    let mut passed = 0;
-    while passed < n {
-        if applies(rule, spns, starts, widths, passed) {
-            return passed + 1;
+impl<'a> Listed<'a> {
+    // Kept: each method asks that its index is below n: an index has no type of its own, and would be taken out of one at each slice.
+    // Whether the SPN at index i is not in the dictionary.
+    fn is_unknown(self, i: u8) -> bool
+        requires { i < self.n }
+        ensures { result ≡ unknown (number_at self.entry.widths.now) i }
+    {
+        number_at(self.widths, i) == 0
+    }
+
+    // Whether the SPN at index i stands at a lower one too.
+    fn is_repeated(self, i: u8) -> bool
+        requires { i < self.n }
+        ensures { result ≡ repeated (number_at self.entry.spns.now) i }
+    {
+        let spn = number_at(self.spns, i);
+        self.spns[..i as usize].contains(&spn)
+    }
+
+    // Whether the start at index i is not above the one before; the first has none before it.
+    fn is_not_above(self, i: u8) -> bool
+        requires { i < self.n }
+        ensures { result ≡ not_above (number_at self.entry.starts.now) i }
+    {
+        if i == 0 {
+            return false;
         }
-        passed += 1;
+        number_at(self.starts, i) <= number_at(self.starts, i - 1)
     }
-    0
+
+    // Whether the parameter at index i has an odd width and starts at no multiple of 8.
+    fn is_uneven(self, i: u8) -> bool
+        requires { i < self.n }
+        ensures { result ≡ uneven (number_at self.entry.starts.now) (number_at self.entry.widths.now) i }
+    {
+        places::is_odd(number_at(self.widths, i)) & (number_at(self.starts, i) % 8 != 0)
+    }
+
+    // Whether the parameter at index i shares a bit with an earlier one.
+    fn shares_earlier(self, i: u8) -> bool
+        requires { i < self.n }
+        ensures { result ≡ overlaps (number_at self.entry.starts.now) (number_at self.entry.widths.now) i }
+    {
+        let start = number_at(self.starts, i);
+        let width = number_at(self.widths, i);
+        for j in 0..i {
+            if places::shares(
+                number_at(self.starts, j),
+                number_at(self.widths, j),
+                start,
+                width,
+            ) {
+                return true;
+            }
+        }
+        false
+    }
+
+    // The end of the parameter at index i.
+    fn end_at(self, i: u8) -> u64
+        requires { i < self.n }
+        ensures { result ≡ end_in self.entry.starts.now self.entry.widths.now i }
+    {
+        places::end_bit(number_at(self.starts, i), number_at(self.widths, i))
+    }
+
+    // The largest end of all.
+    fn largest_end(self) -> u64
+        ensures { result ≡ end_to self.entry.starts.now self.entry.widths.now self.entry.n }
+    {
+        let mut end = 0u64;
+        for i in 0..self.n {
+            end = end.max(self.end_at(i));
+        }
+        end
+    }
 }
 
-// The largest end of n parameters.
-fn largest_end(n: u8, starts: &[u32], widths: &[u32]) -> u64
-    requires { (n ≤ length starts.now) × (n ≤ length widths.now) }
-    ensures { result ≡ end_to starts.now widths.now n }
-{
-    let mut end = 0;
-    let mut counted = 0;
-    while counted < n {
-        end = larger(end, end_at(starts, widths, counted));
-        counted += 1;
-    }
-    end
-}
+// ---- rule by rule
 
 // Whether the transport flag is yes with a payload of 8 bytes, or no with a longer one.
 fn is_wrong_transport(transport: bool, bytes: u64) -> bool
@@ -221,32 +180,28 @@ fn last_word(transport: bool, end: u64) -> Judgement
     Judgement::Usable
 }
 
-// The judgement of n parameters that are all there and known, rule by rule.
-fn of_known(n: u8, transport: bool, spns: &[u32], starts: &[u32], widths: &[u32]) -> Judgement
-    requires { (lowest (marked (shortest_of spns.now starts.now widths.now) widths.now) n ≡ 0) × (lowest (unknown (number_at widths.now)) n ≡ 0) }
-    ensures { said_of result ≡ judge_over n transport (in_slices spns.now starts.now widths.now) }
+// The judgement of parameters that are all there and known, rule by rule.
+fn of_known(listed: Listed, transport: bool) -> Judgement
+    requires { (None ≡ found (lowest_of (marked (shortest_of listed.spns.now listed.starts.now listed.widths.now) listed.widths.now) listed.n))
+        × (None ≡ found (lowest_of (unknown (number_at listed.widths.now)) listed.n)) }
+    ensures { said_of result ≡ judge_over listed.entry.n transport (in_slices listed.entry.spns.now listed.entry.starts.now listed.entry.widths.now) }
 {
-    let repeated = lowest_by(Rule::Repeated, n, spns, starts, widths);
-    if repeated != 0 {
+    if let Some(repeated) = lowest(listed.n, |i| listed.is_repeated(i)) {
         return Judgement::Repeated(repeated);
     }
-    let not_above = lowest_by(Rule::NotAbove, n, spns, starts, widths);
-    if not_above != 0 {
+    if let Some(not_above) = lowest(listed.n, |i| listed.is_not_above(i)) {
         return Judgement::NotAbove(not_above);
     }
-    let uneven = lowest_by(Rule::Uneven, n, spns, starts, widths);
-    if uneven != 0 {
+    if let Some(uneven) = lowest(listed.n, |i| listed.is_uneven(i)) {
         return Judgement::Uneven(uneven);
     }
-    let overlaps = lowest_by(Rule::Overlaps, n, spns, starts, widths);
-    if overlaps != 0 {
+    if let Some(overlaps) = lowest(listed.n, |i| listed.shares_earlier(i)) {
         return Judgement::Overlaps(overlaps);
     }
-    let beyond = lowest_by(Rule::Beyond, n, spns, starts, widths);
-    if beyond != 0 {
+    if let Some(beyond) = lowest(listed.n, |i| is_beyond(listed.end_at(i))) {
         return Judgement::Beyond(beyond);
     }
-    last_word(transport, largest_end(n, starts, widths))
+    last_word(transport, listed.largest_end())
 }
 
 // The judgement of n parameters, rule by rule: the first rule of the list that applies, with its lowest position. No rule after it is tried. What is not there or
@@ -254,15 +209,19 @@ fn of_known(n: u8, transport: bool, spns: &[u32], starts: &[u32], widths: &[u32]
 fn by_rules(n: u8, transport: bool, spns: &[u32], starts: &[u32], widths: &[u32]) -> Judgement
     ensures { said_of result ≡ judge_over n transport (in_slices spns.now starts.now widths.now) }
 {
-    let missing = lowest_missing(n, spns, starts, widths);
-    if missing != 0 {
+    if let Some(missing) = lowest_missing(n, spns, starts, widths) {
         return Judgement::Missing(missing);
     }
-    let unknown = lowest_by(Rule::Unknown, n, spns, starts, widths);
-    if unknown != 0 {
+    let listed = Listed {
+        n,
+        spns,
+        starts,
+        widths,
+    };
+    if let Some(unknown) = lowest(n, |i| listed.is_unknown(i)) {
         return Judgement::Unknown(unknown);
     }
-    of_known(n, transport, spns, starts, widths)
+    of_known(listed, transport)
 }
 
 // ---- all rules in one walk
@@ -277,42 +236,6 @@ fn mark_of(spn: u32) -> usize
     (spn % 256) as usize
 }
 
-// Whether the SPN at index i stands at a lower one too, where each SPN that was passed has its mark: the lower ones are looked at only where the mark is set.
-fn is_again(seen: &[u8; MARKS], spns: &[u32], i: u8) -> bool
-    requires { (i < length spns.now) × Passed seen.now spns.now i }
-    ensures { result ≡ repeated (number_at spns.now) i }
-{
-    if seen[mark_of(number_at(spns, i))] == 0 {
-        return false;
-    }
-    is_repeated(spns, i)
-}
-
-// Whether the parameter at index i does not start above the one before, or shares a bit with an earlier one, where the largest end of those before the last of the earlier ones is known.
-// Nearly always only the last ends after this start: then it alone is looked at.
-fn crosses(before: u64, starts: &[u32], widths: &[u32], i: u8) -> bool
-    requires { (i < length starts.now) × (i < length widths.now) × (0 < i) × (before ≡ end_to starts.now widths.now (i - 1)) }
-    ensures { result ≡ crossing (number_at starts.now) (number_at widths.now) i }
-{
-    if before <= number_at(starts, i) as u64 {
-        return is_not_above(starts, i) | share(starts, widths, i - 1, i);
-    }
-    is_not_above(starts, i) | shares_earlier(starts, widths, i)
-}
-
-// The same, where the largest end of all earlier ones is known too. What starts at or after it does neither; what starts below it may share no bit, in the low bits that an odd width
-// skips.
-fn is_crossing(before: u64, end: u64, starts: &[u32], widths: &[u32], i: u8) -> bool
-    requires { (i < length starts.now) × (i < length widths.now)
-        × (before ≡ end_to starts.now widths.now (i - 1)) × (end ≡ end_to starts.now widths.now i) × Wide widths.now i }
-    ensures { result ≡ crossing (number_at starts.now) (number_at widths.now) i }
-{
-    if end <= number_at(starts, i) as u64 {
-        return false;
-    }
-    crosses(before, starts, widths, i)
-}
-
 // Whether a rule applies that looks at one parameter alone: 2, 3 or 9.
 fn is_broken_alone(start: u32, width: u32) -> bool
     ensures { result ≡ broken_by start width }
@@ -323,72 +246,92 @@ fn is_broken_alone(start: u32, width: u32) -> bool
     (width == MISSING) | ((width % 8 != 0) & (start % 8 != 0))
 }
 
-// Whether any rule but 7 applies to the parameter at index i, by what the walk knows of the lower ones.
-fn is_broken(
-    before: u64,
-    end: u64,
-    seen: &[u8; MARKS],
-    spns: &[u32],
-    starts: &[u32],
-    widths: &[u32],
-    i: u8,
-) -> bool
-    requires { (i < length spns.now) × (i < length starts.now) × (i < length widths.now)
-        × (before ≡ end_to starts.now widths.now (i - 1)) × (end ≡ end_to starts.now widths.now i) × Wide widths.now i × Passed seen.now spns.now i }
-    ensures { result ≡ broken spns.now starts.now widths.now i }
-{
-    if is_broken_alone(number_at(starts, i), number_at(widths, i)) {
-        return true;
-    }
-    if is_again(seen, spns, i) {
-        return true;
-    }
-    is_crossing(before, end, starts, widths, i)
-}
-
-// What the walk found: the lowest position that it stopped at, or 0, and the largest end of those passed.
-#[derive(Clone, Copy)]
-struct Walked {
-    position: u8,
-    end: u64,
-}
-
-// The lowest position that any rule but 7 applies to, or 0; where there is none, also the largest end of all, which says whether 7 applies. Most maps are usable: of them this is all that is looked at.
-fn walk(n: u8, spns: &[u32], starts: &[u32], widths: &[u32]) -> Walked
-    requires { (n ≤ length spns.now) × (n ≤ length starts.now) × (n ≤ length widths.now) }
-    ensures { (result.position ≡ lowest (broken spns.now starts.now widths.now) n)
-        × (result.position ≡ 0 → result.end ≡ end_to starts.now widths.now n) }
-{
-    let mut seen = [0u8; MARKS];
-    let mut before = 0; // the largest end of those before the last one passed
-    let mut end = 0;
-    let mut clear = 0;
-    while clear < n {
-        if is_broken(before, end, &seen, spns, starts, widths, clear) {
-            return Walked {
-                position: clear + 1,
-                end,
-            };
+impl<'a> Listed<'a> {
+    // Whether the SPN at index i stands at a lower one too, where each SPN that was passed has its mark: the lower ones are looked at only where the mark is set.
+    fn is_again(self, seen: &[bool; MARKS], i: u8) -> bool
+        requires { (i < self.n) × Passed seen.now self.spns.now i }
+        ensures { result ≡ repeated (number_at self.entry.spns.now) i }
+    {
+        if !seen[mark_of(number_at(self.spns, i))] {
+            return false;
         }
-        seen[mark_of(number_at(spns, clear))] = 1;
-        before = end;
-        end = larger(end, end_at(starts, widths, clear));
-        clear += 1;
+        self.is_repeated(i)
     }
-    Walked { position: 0, end }
+
+    // Whether the parameter at index i does not start above the one before, or shares a bit with an earlier one, where the largest end of all earlier ones is known, and that of those before
+    // the last of them. What starts at or after the first does neither; what starts below it may share no bit, in the low bits that an odd width skips. Nearly always only the last ends after this
+    // start: then it alone is looked at.
+    fn is_crossing(self, before: u64, end: u64, i: u8) -> bool
+        requires { (i < self.n) × (before ≡ end_to self.starts.now self.widths.now (i - 1))
+            × (end ≡ end_to self.starts.now self.widths.now i) × Wide self.widths.now i }
+        ensures { result ≡ crossing (number_at self.entry.starts.now) (number_at self.entry.widths.now) i }
+    {
+        let start = number_at(self.starts, i);
+        if end <= start as u64 {
+            return false;
+        }
+        if before <= start as u64 {
+            let j = i - 1;
+            let width = number_at(self.widths, i);
+            return self.is_not_above(i)
+                | places::shares(
+                    number_at(self.starts, j),
+                    number_at(self.widths, j),
+                    start,
+                    width,
+                );
+        }
+        self.is_not_above(i) | self.shares_earlier(i)
+    }
+
+    // Whether any rule but 7 applies to the parameter at index i, by what the walk knows of the lower ones.
+    fn is_broken(self, before: u64, end: u64, seen: &[bool; MARKS], i: u8) -> bool
+        requires { (i < self.n) × (before ≡ end_to self.starts.now self.widths.now (i - 1))
+            × (end ≡ end_to self.starts.now self.widths.now i) × Wide self.widths.now i × Passed seen.now self.spns.now i }
+        ensures { result ≡ broken self.entry.spns.now self.entry.starts.now self.entry.widths.now i }
+    {
+        is_broken_alone(number_at(self.starts, i), number_at(self.widths, i))
+            || self.is_again(seen, i)
+            || self.is_crossing(before, end, i)
+    }
+
+    // The largest end of all, where no rule but 7 applies to any: it says whether 7 does. Most maps are usable: of them this is all that is looked at.
+    fn walk(self) -> Option<u64>
+        ensures { result ≡ cond (any (broken self.entry.spns.now self.entry.starts.now self.entry.widths.now) self.entry.n) None
+            (Some (end_to self.entry.starts.now self.entry.widths.now self.entry.n)) }
+    {
+        let mut seen = [false; MARKS];
+        let mut before = 0; // the largest end of those before the last one passed
+        let mut end = 0u64;
+        for clear in 0..self.n {
+            if self.is_broken(before, end, &seen, clear) {
+                return None;
+            }
+            seen[mark_of(number_at(self.spns, clear))] = true;
+            before = end;
+            end = end.max(self.end_at(clear));
+        }
+        Some(end)
+    }
 }
 
 // The judgement of n parameters: the first rule of the list that applies, with its lowest position. One walk says whether any applies; only where one does, or
 // a slice is too short, they are tried in their order.
+// Kept: three slices, and no array of parameters: `dictionary::widths_of` lays all widths at once, `payload` takes starts and widths alone, and the promise says by `in_slices` what they stand for.
 pub fn judge(n: u8, transport: bool, spns: &[u32], starts: &[u32], widths: &[u32]) -> Judgement
     ensures { said_of result ≡ judge_over n transport (in_slices spns.now starts.now widths.now) }
 {
     if shortest(spns, starts, widths) < n as usize { // one is missing
         return by_rules(n, transport, spns, starts, widths);
     }
-    let walked = walk(n, spns, starts, widths);
-    if (walked.position != 0) | is_beyond(walked.end) { // which rule comes first
-        return by_rules(n, transport, spns, starts, widths);
+    let listed = Listed {
+        n,
+        spns,
+        starts,
+        widths,
+    };
+    match listed.walk() {
+        Some(end) if !is_beyond(end) => last_word(transport, end),
+        _ => by_rules(n, transport, spns, starts, widths), // which rule comes first
     }
-    last_word(transport, walked.end)
 }

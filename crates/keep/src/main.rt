@@ -2,24 +2,16 @@
 // and save; this program only reads (crate reading) and writes. Where the log can't be read to its end, it writes nothing: an image is whole or not there.
 #![tactic(auto)]
 
-ghost use Rattle.std.specs.Prelude.{◌≤◌};
-
 use lookup::{Table, WORDS};
+use reading::Flow;
 use std::io::Result;
 use std::process::ExitCode;
-
-// As many bytes as the buffer has, at most.
-fn within(n: usize) -> usize
-    ensures { result ≤ 2610 }
-{
-    if n < save::MOST { n } else { save::MOST }
-}
 
 // An error says why not the whole image was written. No table that a log teaches has a longer one than the buffer.
 fn print<R: Print>(rt: &R, t: &Table) -> Result<()> {
     let mut image = [0u8; save::MOST];
     save::save(t, &mut image);
-    let n = within(save::size(t));
+    let n = save::size(t).min(save::MOST);
     rt.write_all(&image[..n])
 }
 
@@ -27,7 +19,7 @@ fn main(rt: HostRuntime) -> ExitCode {
     let mut t = [0u64; WORDS];
     table::empty(&mut t);
     let log = reading::log(&rt, &mut t, b"save: reading stopped, and nothing is saved");
-    if !log.whole {
+    if log.flow == Flow::Failed {
         return reading::done(false);
     }
     let written = print(&rt, &t);

@@ -1,14 +1,20 @@
 -- What one message more makes of a row, and what it is answered: on any words. A message comes as the numbers that lie in the words (form, position,
 -- cell), so that nothing is asked of them.
 -- Assumes nothing.
-use Rattle.std.specs.Prelude.{ℕ, ◌+◌, ◌%◌, ◌^◌, Bool, cond, ◌&&◌, ◌||◌, List, eqb, set, replicate}
-use Rattle.answers.specs.Answers.{Outcome, outcome, plain}
+use Rattle.std.specs.Prelude.{ℕ, ◌+◌, ◌%◌, ◌^◌, Bool, cond, ◌&&◌, ◌||◌, List, Result, Ok, Err, eqb, set, replicate}
+use Rattle.answers.specs.Answers.{Said, Outcome, outcome, plain}
 use Rattle.message.specs.declared.Message.{Message}
+use Rattle.keyrow.specs.declared.InConflict.{InConflict}
 use Rattle.keyrow.specs.Row.{row_words, key_number, form_number, cell_number, state_word, form_word, cell_word}
 
 -- the message contradicts nothing of the row: the same n and flags, and at its position nothing or the same SPN and start
 unfoldable pub numbers_fit : List ℕ → ℕ → ℕ → ℕ → Bool
 numbers_fit r form p cell = eqb (form_word r % 2 ^ 10) form && (eqb (cell_word r p) 0 || eqb (cell_word r p) cell)
+
+-- what the code's result says: 0, or 10 for a key in conflict
+abbrev pub learned_row : Result (Unit {0}) InConflict → Said
+learned_row (Ok done) = plain 0
+learned_row (Err e) = plain 10
 
 -- one message more: "key in conflict, or put there by this message" is 10, and of the words only the state changes
 unfoldable pub learn_numbers : List ℕ → ℕ → ℕ → ℕ → Outcome

@@ -4,6 +4,7 @@
 
 use feeding::Tally;
 use lookup::{Table, WORDS};
+use reading::Flow;
 use std::io::Result;
 use std::process::ExitCode;
 
@@ -27,7 +28,7 @@ fn main(rt: HostRuntime) -> ExitCode {
     let written = print(&rt, &t, tally);
     reading::ended(
         &rt,
-        log.whole,
+        log.flow != Flow::Failed,
         written,
         b"list: the listing could not be written",
     )

@@ -3,6 +3,7 @@
 #![tactic(auto)]
 
 use lookup::{Table, WORDS};
+use reading::Flow;
 use std::io::Result;
 use std::process::ExitCode;
 
@@ -36,7 +37,7 @@ fn main(rt: HostRuntime) -> ExitCode {
         b"list: reading stopped, and nothing is listed",
     );
     let n = image.n;
-    if !image.whole {
+    if image.flow == Flow::Failed {
         return reading::done(false);
     }
     list(&rt, &buffer[..n])

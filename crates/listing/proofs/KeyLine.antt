@@ -3,7 +3,9 @@ use Prim.Native.Nat.{ℕ}
 use mathlib.Core.Path.{◌≡◌, refl, ap, ◌∙◌}
 use Rattle.answers.specs.declared.Answer.{Answer}
 use Rattle.answers.specs.Answers.{at, said_of, Said, in_numbers}
-use Rattle.text.specs.Text.{Page, put_all}
+use Rattle.text.specs.declared.Page.{Page as Lent}
+use Rattle.text.specs.Page.{Laid}
+use Rattle.text.proofs.Laid.{equal}
 use Rattle.dictionary.specs.Dictionary.{width_by}
 use Rattle.message.specs.declared.Key.{Key}
 use Rattle.maps.specs.Maps.{Map, Nothing, Conflict, Held}
@@ -27,6 +29,6 @@ line_is k edition m n j p a e f g h =
     rw (e, u, v)
 
 -- the same of a page that it is laid into
-pub line_laid : (x r : Page) (k : Key) (edition : ℕ) (m : Map) (n j p : ℕ) (a : Answer) → n ≡ count_of m → in_numbers a ≡ judged_by (width_by edition) m → j ≡ (said_of a.judgement).number
-    → p ≡ (said_of a.judgement).position → r ≡ put_all x (line_of k n (at j p)) → r ≡ put_all x (key_line k edition m)
-line_laid x r k edition m n j p a e f g h q = q ∙ ap (put_all x) (line_is k edition m n j p a e f g h)
+pub line_laid : (x r : Lent) (k : Key) (edition : ℕ) (m : Map) (n j p : ℕ) (a : Answer) → n ≡ count_of m → in_numbers a ≡ judged_by (width_by edition) m → j ≡ (said_of a.judgement).number
+    → p ≡ (said_of a.judgement).position → Laid x r (line_of k n (at j p)) → Laid x r (key_line k edition m)
+line_laid x r k edition m n j p a e f g h q = equal (line_is k edition m n j p a e f g h) q

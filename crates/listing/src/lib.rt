@@ -4,6 +4,7 @@
 
 ghost use Rattle.std.specs.Prelude.{◌≡◌};
 ghost use Rattle.answers.specs.Answers.{at as judged_at, outcome, in_numbers};
+ghost use Rattle.text.specs.Page.{Laid};
 ghost use Rattle.text.specs.Text.{page, put_all};
 ghost use Rattle.lookup.specs.View.{map_in, edition_in};
 ghost use Rattle.lookup.specs.Next.{held_keys};
@@ -12,8 +13,9 @@ ghost use Rattle.listing.specs.Page.{pieces_of, finished};
 
 use answers::Answer;
 use feeding::{Counts, Tally};
-use lookup::{Next, ROWS, Table};
+use lookup::Table;
 use message::Key;
+use text::Page;
 
 // So many bytes hold any listing (proofs/Widths.antt).
 pub const PAGE: usize = 512;
@@ -21,58 +23,47 @@ pub const PAGE: usize = 512;
 // ---- lines
 
 // Lays the line of a key.
-fn put_line(out: &mut [u8], at: usize, key: Key, n: u8, judged: u8, position: u8) -> usize
-    ensures { page result out.new ≡ put_all (page at out.old) (line_of key n (judged_at judged position)) }
+fn put_line(page: &mut Page, key: Key, n: u8, judged: u8, position: u8)
+    ensures { Laid page.old page.new (line_of key n (judged_at judged position)) }
 {
-    let at = text::put_number(out, at, key.source as u64, b" ");
-    let at = text::put_number(out, at, key.destination as u64, b" ");
-    let at = text::put_number(out, at, key.k as u64, b" ");
-    let at = text::put_number(out, at, n as u64, b" ");
-    let at = text::put_number(out, at, judged as u64, b" ");
-    text::put_number(out, at, position as u64, b"\n")
+    page.number(key.source as u64, b" ");
+    page.number(key.destination as u64, b" ");
+    page.number(key.k as u64, b" ");
+    page.number(n as u64, b" ");
+    page.number(judged as u64, b" ");
+    page.number(position as u64, b"\n");
 }
 
 // Lays the line of one key, by what the table holds of it.
-fn put_key(t: &Table, out: &mut [u8], at: usize, key: Key) -> usize
-    ensures { page result out.new ≡ put_all (page at out.old) (key_line key (edition_in t.now key) (map_in t.now key)) }
+fn put_key(t: &Table, page: &mut Page, key: Key)
+    ensures { Laid page.old page.new (key_line key (edition_in t.now key) (map_in t.now key)) }
 {
-    let n = ask::count(t, key.source, key.destination, key.k);
-    let judged = ask::judge(t, key.source, key.destination, key.k);
+    let n = ask::count(t, key);
+    let judged = ask::judge(t, key);
     let judgement = judged.judgement;
     let number = answers::number_of(judgement);
     let position = answers::position_of(judgement);
-    put_line(out, at, key, n, number, position)
+    put_line(page, key, n, number, position);
 }
 
-// Lays the lines of the held keys, rising; 16 rows hold no more than 16.
-fn put_keys(t: &Table, out: &mut [u8], at: usize) -> usize
-    ensures { page result out.new ≡ put_all (page at out.old) (key_lines (edition_in t.now) (map_in t.now) (held_keys t.now)) }
+// Lays the lines of the held keys, rising.
+fn put_keys(t: &Table, page: &mut Page)
+    ensures { Laid page.old page.new (key_lines (edition_in t.now) (map_in t.now) (held_keys t.now)) }
 {
-    let mut place = at;
-    let mut next = lookup::first_key(t);
-    let mut i = 0;
-    while i < ROWS {
-        match next {
-            Next::Found(key) => {
-                place = put_key(t, out, place, key);
-                next = lookup::next_key(t, key.source, key.destination, key.k);
-            }
-            Next::NoMore => return place,
-        }
-        i += 1;
+    for key in lookup::keys(t) {
+        put_key(t, page, key);
     }
-    place
 }
 
 // Lays the last line.
-pub fn put_last(out: &mut [u8], at: usize, c: Counts, left: usize) -> usize
-    ensures { page result out.new ≡ put_all (page at out.old) (last_line c left) }
+pub fn put_last(page: &mut Page, c: Counts, left: usize)
+    ensures { Laid page.old page.new (last_line c left) }
 {
-    let at = text::put_bytes(out, at, b"RECORDS ");
-    let at = text::put_number(out, at, c.records, b" REFUSED ");
-    let at = text::put_number(out, at, c.refused, b" OTHER ");
-    let at = text::put_number(out, at, c.other, b" LEFT ");
-    text::put_number(out, at, left as u64, b"\n")
+    page.bytes(b"RECORDS ");
+    page.number(c.records, b" REFUSED ");
+    page.number(c.refused, b" OTHER ");
+    page.number(c.other, b" LEFT ");
+    page.number(left as u64, b"\n");
 }
 
 // ---- the listing
@@ -81,11 +72,13 @@ pub fn put_last(out: &mut [u8], at: usize, c: Counts, left: usize) -> usize
 fn put_listing(t: &Table, s: Tally, out: &mut [u8]) -> usize
     ensures { page result out.new ≡ put_all (page 0 out.old) (pieces_of t.now s) }
 {
-    let at = text::put_bytes(out, 0, b"SRC DST MSG N JUDGED AT\n");
-    let at = put_keys(t, out, at);
+    let mut page = Page::new(out, 0);
+    page.bytes(b"SRC DST MSG N JUDGED AT\n");
+    put_keys(t, &mut page);
     let counts = s.counts;
     let left = record::left_in(s.left);
-    put_last(out, at, counts, left)
+    put_last(&mut page, counts, left);
+    page.at()
 }
 
 // Lays the listing over the start of `out`: 0 with its length, or 13 and nothing written where `out` is too short. 512 bytes are never too short.

@@ -1,7 +1,8 @@
 -- Frame by frame, and edition by edition: what the loops of loading make of the words is what the messages and the editions make of them. Assumes nothing.
 use Prim.Native.Nat.{ℕ, zero, suc, ◌+◌, ◌-◌, ◌*◌, ◌≤◌, ◌<◌}
 use native.Mathlib.Omega.{arith}
-use native.Mathlib.Nat.{not-suc-le-zero}
+use native.Mathlib.Nat.{not-suc-le-zero, mul-suc}
+use native.Mathlib.Numerals.{add-one}
 use mathlib.Core.Path.{◌≡◌, refl, sym, ap, ◌∙◌}
 use mathlib.Core.Bool.{Bool, true, false, cond}
 use mathlib.Core.List.{List, [], ◌∷◌, ◌++◌}
@@ -21,32 +22,40 @@ use Rattle.image.specs.Read.{key_at, five_at, heard_at, body_events, count_at, r
 use Rattle.load.specs.Fed.{fed_one, fed_body, fed_rows, fed_frames, fed_editions, fed_all}
 
 module _ (t l : List ℕ) where
-  -- ---- turns of the loops
+  -- ---- turns of the loops, whose index is i of n
 
-  pub body_turn : (key : Key) (p n : ℕ) → 0 < n → fed_body t l key p n ≡ fed_body (fed_one t l key p) l key (p + 5) (n - 1)
+  pub body_turn : (key : Key) (p i n : ℕ) → i < n → fed_body t l key (p + 5 * i) (n - i) ≡ fed_body (fed_one t l key (p + 5 * i)) l key (p + 5 * (i + 1)) (n - (i + 1))
   unfolding fed_body
-  body_turn key p zero h = absurd (not-suc-le-zero h)
-  body_turn key p (suc n) h = let e : n ≡ suc n - 1 = omega arith in ap (fed_body (fed_one t l key p) l key (p + 5)) e
+  body_turn key p i n h =
+      let e : n - i ≡ suc (n - (i + 1)) = omega arith in
+      let q : p + 5 * i + 5 ≡ p + 5 * (i + 1) = omega arith in
+      rw e (ap (λ (x : ℕ). fed_body (fed_one t l key (p + 5 * i)) l key x (n - (i + 1))) q)
 
   pub body_done : (key : Key) (p n : ℕ) → n ≤ 0 → fed_body t l key p n ≡ t
   unfolding fed_body
   body_done key p zero h = refl
   body_done key p (suc n) h = absurd (not-suc-le-zero h)
 
-  pub rows_turn : (w r p n : ℕ) → 0 < n → fed_rows w t l r p n ≡ fed_rows w (fed_body t l (key_at l r) p (count_at l p)) l (r + w) (p + 5 * count_at l p) (n - 1)
+  pub rows_turn : (w p i n : ℕ) → i < n
+      → fed_rows w t l (2 + w * i) p (n - i) ≡ fed_rows w (fed_body t l (key_at l (2 + w * i)) p (count_at l p)) l (2 + w * (i + 1)) (p + 5 * count_at l p) (n - (i + 1))
   unfolding fed_rows
-  rows_turn w r p zero h = absurd (not-suc-le-zero h)
-  rows_turn w r p (suc n) h = let e : n ≡ suc n - 1 = omega arith in ap (fed_rows w (fed_body t l (key_at l r) p (count_at l p)) l (r + w) (p + 5 * count_at l p)) e
+  rows_turn w p i n h =
+      let e : n - i ≡ suc (n - (i + 1)) = omega arith in
+      let q : 2 + w * i + w ≡ 2 + w * (i + 1) = rw add-one (omega (arith, mul-suc w i)) in
+      rw e (ap (λ (x : ℕ). fed_rows w (fed_body t l (key_at l (2 + w * i)) p (count_at l p)) l x (p + 5 * count_at l p) (n - (i + 1))) q)
 
   pub rows-done : (w r p n : ℕ) → n ≤ 0 → fed_rows w t l r p n ≡ t
   unfolding fed_rows
   rows-done w r p zero h = refl
   rows-done w r p (suc n) h = absurd (not-suc-le-zero h)
 
-  pub editions_turn : (r n : ℕ) → 0 < n → fed_editions t l r n ≡ fed_editions (edited t (key_number (key_at l r)) (edition_at l r)).memory l (r + 8) (n - 1)
+  pub editions_turn : (i n : ℕ) → i < n
+      → fed_editions t l (2 + 8 * i) (n - i) ≡ fed_editions (edited t (key_number (key_at l (2 + 8 * i))) (edition_at l (2 + 8 * i))).memory l (2 + 8 * (i + 1)) (n - (i + 1))
   unfolding fed_editions
-  editions_turn r zero h = absurd (not-suc-le-zero h)
-  editions_turn r (suc n) h = let e : n ≡ suc n - 1 = omega arith in ap (fed_editions (edited t (key_number (key_at l r)) (edition_at l r)).memory l (r + 8)) e
+  editions_turn i n h =
+      let e : n - i ≡ suc (n - (i + 1)) = omega arith in
+      let q : 2 + 8 * i + 8 ≡ 2 + 8 * (i + 1) = omega arith in
+      rw e (ap (λ (x : ℕ). fed_editions (edited t (key_number (key_at l (2 + 8 * i))) (edition_at l (2 + 8 * i))).memory l x (n - (i + 1))) q)
 
   pub editions_done : (r n : ℕ) → n ≤ 0 → fed_editions t l r n ≡ t
   unfolding fed_editions

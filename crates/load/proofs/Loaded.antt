@@ -35,7 +35,7 @@ as_long : (x page later : List ℕ) → length x ≤ length page → later ≡ l
 as_long x page later room g = ap length (g ∙ sym (laid-is page 0 x (omega arith)).1) ∙ length-splice page 0 x (omega arith)
 
 -- the elements of a slice are bytes
-pub all_bytes : (l : List ℕ) → ((i : ℕ) → get_or l i 0 < 256) → Bytes l
+all_bytes : (l : List ℕ) → ((i : ℕ) → get_or l i 0 < 256) → Bytes l
 all_bytes [] f = tt
 all_bytes (x ∷ l) f = (f 0, all_bytes l (λ i. f (suc i)))
 
@@ -53,13 +53,13 @@ module _ (l t : List ℕ) (e : t ≡ fed_all (replicate 1072 0) l) where
   scratch = e ∙ all_fed_lem empty_table l
 
   -- so its image has room in the page
-  module _ (b : Bytes l) (form n : ℕ) (later : List ℕ) (its : form ≡ form_of l) (f : n ≡ length (image_in form t)) where
-    pub room : n ≤ 2610
-    room = omega (arith, f, ap (λ (x : List ℕ). length (image_in form x)) scratch, most-long form (events_of l) (events-taught l b))
+  module _ (b : (i : ℕ) → get_or l i 0 < 256) (form n : ℕ) (later : List ℕ) (its : form ≡ form_of l) (f : n ≡ length (image_in form t)) where
+    room : n ≤ 2610
+    room = omega (arith, f, ap (λ (x : List ℕ). length (image_in form x)) scratch, most-long form (events_of l) (events-taught l (all_bytes l b)))
 
     module _ (g : later ≡ laid blank 0 (image_in form t)) where
-      pub still_long : length later ≡ 2610
-      still_long = as_long (image_in form t) blank later (omega (arith, f, room, blank_long)) g ∙ blank_long
+      pub in_page : n ≤ length later
+      in_page = omega (arith, room, as_long (image_in form t) blank later (omega (arith, f, room, blank_long)) g, blank_long)
 
       -- and is compared
       pub checked : same (take n later) l ≡ good l

@@ -2,15 +2,14 @@
 // that they take is bounded, since at most 255 rows with 31 positions each are heard and comparing stops at the first difference.
 #![tactic(auto)]
 
-ghost use Rattle.std.specs.Prelude.{◌≡◌, cond, not, ◌≤◌, eqb, get_or};
+ghost use Rattle.std.specs.Prelude.{◌≡◌, cond, ◌≤◌, eqb, get_or};
 ghost use Rattle.answers.specs.Answers.{in_numbers, outcome};
-ghost use Rattle.keyrow.specs.Row.{key_of};
-ghost use Rattle.image.specs.Read.{row_count, form_of, same, good, loaded};
+ghost use Rattle.image.specs.Read.{key_at, row_count, form_of, same, good, loaded};
 ghost use Rattle.load.specs.Fed.{fed_one, fed_body, fed_frames, fed_editions, fed_all};
 
 use answers::Answer;
 use keyrow::{EDITION_2004, EDITION_2010};
-use lookup::{Next, Table, WORDS};
+use lookup::{Table, WORDS};
 use message::Key;
 use save::{MOST, OLD, WRITTEN};
 
@@ -23,13 +22,11 @@ const LENGTH: u8 = 8;
 pub fn byte_at(s: &[u8], i: usize) -> u8
     ensures { result ≡ get_or s.now i 0 }
 {
-    if i < s.len() {
-        return s[i];
-    }
-    0
+    s.get(i).copied().unwrap_or(0)
 }
 
 // The form of an image: 1, or it is read as the form that is written.
+// Kept: a number and no enum, as it is the image's first byte, and the calls of `save` take any byte for a form.
 pub fn form_of(image: &[u8]) -> u8
     ensures { result ≡ form_of image.now }
 {
@@ -49,38 +46,42 @@ pub fn edition_said(byte: u8) -> u32
     EDITION_2010
 }
 
-// Hears the frame of a key whose data bytes 4 to 8 stand at p.
-fn hear(t: &mut Table, image: &[u8], source: u8, destination: u8, k: u8, p: usize)
-    requires { p ≤ 65536 }
-    ensures { t.new ≡ fed_one t.old image.now (key_of source destination k) p }
+// The key of the row at byte r, whose bytes past the end are 0.
+pub fn key_at(image: &[u8], r: usize) -> Key
+    ensures { result ≡ key_at image.now r }
 {
-    let id = written::id_of(Key {
-        source,
-        destination,
-        k,
-    });
-    let d = written::with_key(
-        k,
+    let row = image.get(r..).unwrap_or(b"");
+    Key {
+        source: byte_at(row, 0),
+        destination: byte_at(row, 1),
+        k: byte_at(row, 2),
+    }
+}
+
+// Hears the frame of a key whose data bytes 4 to 8 stand at p.
+fn hear(t: &mut Table, image: &[u8], key: Key, p: usize)
+    requires { p ≤ 65536 }
+    ensures { t.new ≡ fed_one t.old image.now key p }
+{
+    let id = written::id_of(key);
+    let five = [
         byte_at(image, p),
         byte_at(image, p + 1),
         byte_at(image, p + 2),
         byte_at(image, p + 3),
         byte_at(image, p + 4),
-    );
+    ];
+    let d = written::with_key(key.k, five);
     table::learn(t, id, LENGTH, &d);
 }
 
 // Hears the n frames of a body that stands at p.
-fn feed_body(t: &mut Table, image: &[u8], source: u8, destination: u8, k: u8, p: usize, n: u8)
+fn feed_body(t: &mut Table, image: &[u8], key: Key, p: usize, n: u8)
     requires { (p ≤ 60000) × (n ≤ 31) }
-    ensures { t.new ≡ fed_body t.old image.now (key_of source destination k) p n }
+    ensures { t.new ≡ fed_body t.old image.now key p n }
 {
-    let mut at = p;
-    let mut left = n;
-    while 0 < left {
-        hear(t, image, source, destination, k, at);
-        at += 5;
-        left -= 1;
+    for i in 0..n as usize {
+        hear(t, image, key, p + 5 * i);
     }
 }
 
@@ -89,24 +90,13 @@ fn hear_all(t: &mut Table, image: &[u8])
     ensures { t.new ≡ fed_frames t.old image.now }
 {
     let form = form_of(image);
-    let size = save::row_size(form);
-    let mut left = byte_at(image, 1);
-    let mut row = 2;
-    let mut at = save::behind(form, left);
-    while 0 < left {
+    let count = byte_at(image, 1);
+    let mut at = save::behind(form, count);
+    for i in 0..count {
+        let key = key_at(image, save::behind(form, i));
         let n = byte_at(image, at + 3) % 32;
-        feed_body(
-            t,
-            image,
-            byte_at(image, row),
-            byte_at(image, row + 1),
-            byte_at(image, row + 2),
-            at,
-            n,
-        );
+        feed_body(t, image, key, at, n);
         at += 5 * n as usize;
-        row += size;
-        left -= 1;
     }
 }
 
@@ -114,18 +104,11 @@ fn hear_all(t: &mut Table, image: &[u8])
 fn set_editions(t: &mut Table, image: &[u8])
     ensures { t.new ≡ fed_editions t.old image.now 2 (row_count image.now) }
 {
-    let mut left = byte_at(image, 1);
-    let mut row = 2;
-    while 0 < left {
-        edition::set_edition(
-            t,
-            byte_at(image, row),
-            byte_at(image, row + 1),
-            byte_at(image, row + 2),
-            edition_said(byte_at(image, row + 7)),
-        );
-        row += 8;
-        left -= 1;
+    for i in 0..byte_at(image, 1) as usize {
+        let row = 2 + 8 * i;
+        let key = key_at(image, row);
+        let edition = edition_said(byte_at(image, row + 7));
+        edition::set_edition(t, key, edition);
     }
 }
 
@@ -141,28 +124,12 @@ fn feed(t: &mut Table, image: &[u8])
 
 // ---- checking
 
-// Whether two slices differ at a place.
-fn differ(a: &[u8], b: &[u8], i: usize) -> bool
-    ensures { result ≡ not (eqb (get_or a.now i 0) (get_or b.now i 0)) }
-{
-    byte_at(a, i) != byte_at(b, i)
-}
-
 // Whether two slices hold the same bytes.
+#[tactic(auto, using(crate::proofs::Same::same_is))]
 fn same_bytes(a: &[u8], b: &[u8]) -> bool
     ensures { result ≡ same a.now b.now }
 {
-    if a.len() != b.len() {
-        return false;
-    }
-    let mut i = 0;
-    while i < a.len() {
-        if differ(a, b, i) {
-            return false;
-        }
-        i += 1;
-    }
-    true
+    a == b
 }
 
 // Whether an image is undamaged: what it stands for is loaded into a table of its own, saved again in the same form, and compared.
@@ -184,8 +151,8 @@ pub fn load(t: &mut Table, image: &[u8]) -> Answer
 {
     if check(image) {
         match lookup::first_key(t) {
-            Next::Found(_) => return answers::plainly(23),
-            Next::NoMore => {
+            Some(_) => return answers::plainly(23),
+            None => {
                 feed(t, image);
                 return answers::plainly(0);
             }

@@ -50,7 +50,7 @@ module _ (p : Key → Bool) where
   few_only [] = omega arith
   few_only (k ∷ ks) = let ih = few_only ks in test (p k) (λ t. rw t (omega arith)) (λ f. rw f (omega arith))
 
-walk_few : (n : ℕ) (t : List ℕ) (given : Option Key) → length (walk n t given) ≤ n
+pub walk_few : (n : ℕ) (t : List ℕ) (given : Option Key) → length (walk n t given) ≤ n
 unfolding walk
 walk_few zero t given = omega arith
 walk_few (suc n) t none = omega arith

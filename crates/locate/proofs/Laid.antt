@@ -4,8 +4,8 @@ use native.Mathlib.Nat.{zero-add}
 use native.Mathlib.Omega.{arith}
 use mathlib.Core.Path.{◌≡◌, refl, sym, ap, ◌∙◌}
 use mathlib.Core.Bool.{true, false, cond}
-use mathlib.Core.List.{List, [], ◌∷◌, ◌++◌, append-nil}
-use borrow.Author.Tests.{eq-eqb, ne_eqb, leb-true, le-leb, lt-leb, ltb-true, ltb-false, lt-ltb}
+use mathlib.Core.List.{List, [], ◌++◌, append-nil}
+use borrow.Author.Tests.{leb-true, le-leb, lt-leb, ltb-true, ltb-false, lt-ltb}
 use lib.Dec.{leb, ltb}
 use lib.ListN.{length, take, drop, length-drop, drop_of_length-le, take-append-drop}
 use lib.Seq.{take_all, drop-drop}
@@ -14,13 +14,12 @@ use Rattle.answers.specs.Answers.{Said, plain, done, Outcome, outcome}
 use Rattle.splice.specs.Splice.{fits, laid}
 use Rattle.text.specs.Text.{Page, page, put, put_all}
 use Rattle.text.proofs.Pages.{put_there, put-not}
-use Rattle.text.proofs.Pieces.{one_piece, pieces_laid}
-use Rattle.message.specs.declared.Key.{Key}
+use Rattle.text.proofs.Pieces.{pieces_laid}
 use Rattle.message.specs.declared.Message.{Message}
 use Rattle.record.specs.Record.{written}
 use Rattle.written.specs.Written.{id_of, data_of, record_of, log_of}
 use Rattle.written.proofs.Records.{record_long, log_long}
-use Rattle.locate.specs.Parts.{message_at, piece_at, pieces_of, laid_out}
+use Rattle.locate.specs.Parts.{pieces_of, laid_out}
 
 -- ---- a part that runs to the end of the log
 
@@ -92,16 +91,6 @@ beyond l at x h = rw (lt-leb (at + length x) (length l) (omega arith))
 pub nothing_laid : (p : Page) → p ≡ put_all p []
 unfolding put_all
 nothing_laid p = refl
-
--- what put_told lays: nothing for the position 0, else the record of the message
-module _ (width_of : ℕ → ℕ) (t : List ℕ) (spn : ℕ) (k : Key) (position : ℕ) where
-  pub none_told_of : (p : Page) → position ≡ 0 → p ≡ put_all p (piece_at width_of t spn k position)
-  none_told_of p z = nothing_laid p ∙ rw (eq-eqb position 0 z)
-
-  pub told_of_lem : (l : List ℕ) (at : ℕ) → (position ≡ 0 → ⊥) → (m : Message) → m ≡ message_at width_of t spn k position → (r : Page) → r ≡ put l at (record_of m)
-      → r ≡ put_all (page at l) (piece_at width_of t spn k position)
-  told_of_lem l at n m e r q =
-      one_piece l at (record_of m) r q ∙ ap (λ (x : Message). put_all (page at l) (record_of x ∷ [])) e ∙ rw (ne_eqb position 0 n)
 
 -- ---- room for so many records, without a number that could be too large
 

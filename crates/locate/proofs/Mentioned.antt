@@ -3,21 +3,23 @@ use Prim.Native.Nat.{ℕ, suc, ◌+◌, ◌-◌, ◌<◌}
 use mathlib.Core.Path.{◌≡◌, refl, ap, ◌∙◌}
 use mathlib.Core.Bool.{true, false, and-false}
 use mathlib.Core.Option.{Option, none, some}
-use mathlib.Core.List.{List}
+use mathlib.Core.List.{List, []}
 use native.Mathlib.Decide.{dec_lt}
 use native.Mathlib.Omega.{arith}
 use lib.Dec.{eqb}
 use lib.ListN.{length, get_or}
-use borrow.Author.Tests.{le-leb, lt-leb}
+use borrow.Author.Tests.{le-leb, lt-leb, lt-ltb, le-ltb}
 use Rattle.words.proofs.Tests.{test, never}
 use Rattle.words.proofs.Lowest.{any-each, lowest_none}
 use Rattle.message.specs.declared.Key.{Key}
 use Rattle.message.specs.declared.Place.{Place}
 use Rattle.judge.specs.Judge.{is_none, with_width, spn_in, spn_at, usable, count_of, params_of}
 use Rattle.judge.proofs.Judged.{usable_sound}
-use Rattle.keyrow.specs.Row.{positions, row_words, state_word}
+use Rattle.history.specs.History.{most_keys}
+use Rattle.keyrow.specs.Row.{key_number, positions, row_words, state_word}
 use Rattle.keyrow.specs.View.{place_of, spn_there, place_in, row_as, row_map}
-use Rattle.lookup.specs.Layout.{table_words}
+use Rattle.lookup.specs.Layout.{table_words, slot_of, row_of}
+use Rattle.lookup.proofs.Words.{row-length}
 use Rattle.lookup.specs.View.{map_in, row_for}
 use Rattle.lookup.proofs.KeyRow.{no_map, its_map}
 use Rattle.ask.specs.Ask.{position_of}
@@ -37,6 +39,11 @@ in_cells width_of row i e =
       | no n ↦ never refl (rw (le-leb 1 (suc i) (omega arith), lt-leb (suc i) positions (omega arith)) at e)
     ]
 
+-- a key without a row does not answer
+pub no_row : (width_of : ℕ → ℕ) (own spn : ℕ) (k : Key) (t : List ℕ) → length t ≡ table_words → [] ≡ row_for t k → ◌≡◌ {A = ℕ} 0 (position_told width_of own spn k (map_in t k))
+unfolding position_told
+no_row width_of own spn k t long e = rw (no_map t k long e) (rw (and-false (eqb k.source own)))
+
 module _ (width_of : ℕ → ℕ) (own spn : ℕ) (k : Key) (row : List ℕ) (silent : mentioned row spn ≡ false) where
   absent : length row ≡ row_words → usable width_of (row_map row) ≡ true → position_of width_of (row_map row) spn ≡ 0
   unfolding position_of row_map mentioned
@@ -51,10 +58,11 @@ module _ (width_of : ℕ → ℕ) (own spn : ℕ) (k : Key) (row : List ℕ) (si
 
   -- where the row is the key's, the key does not answer
   pub not-mentioned : (t : List ℕ) → length t ≡ table_words → row ≡ row_for t k → ◌≡◌ {A = ℕ} 0 (position_told width_of own spn k (map_in t k))
-  unfolding position_told
+  unfolding position_told row_for
   not-mentioned t long its =
-      elim (dec_lt 0 (length row)) [
-        | yes l ↦ let (w, m) = its_map t k long row its (λ z. omega (arith, z, l)) in
-            rw m (test (usable width_of (row_map row)) (λ u. rw (u, absent w u, and-false (eqb k.source own))) (λ u. rw (u, and-false (eqb k.source own))))
-        | no n ↦ rw (no_map t k long row its (omega arith)) (rw (and-false (eqb k.source own)))
+      elim (dec_lt (slot_of t (key_number k)) most_keys) [
+        | yes l ↦ let e : row ≡ row_of t (slot_of t (key_number k)) = rw (lt-ltb (slot_of t (key_number k)) most_keys l) at its in
+            let w : length row ≡ row_words = ap length e ∙ row-length t long (slot_of t (key_number k)) l in
+            rw (its_map t k row w its) (test (usable width_of (row_map row)) (λ u. rw (u, absent w u, and-false (eqb k.source own))) (λ u. rw (u, and-false (eqb k.source own))))
+        | no n ↦ no_row width_of own spn k t long (rw (le-ltb (slot_of t (key_number k)) most_keys (omega arith)) refl)
       ]

@@ -1,22 +1,19 @@
 -- What the private functions of this room promise. Assumes nothing.
-use Rattle.std.specs.Prelude.{ℕ, zero, suc, ◌+◌, ◌-◌, Bool, cond, List, [], ◌∷◌, map, eqb, length, get_or}
-use Rattle.std.proofs.Math.Option.{Option, none, some}
+use Rattle.std.specs.Prelude.{ℕ, ◌+◌, ◌-◌, Bool, cond, List, map, eqb, length, get_or}
 use Rattle.words.specs.First.{any}
 use Rattle.answers.specs.Answers.{Outcome}
 use Rattle.answers.specs.Tests.{tested}
 use Rattle.message.specs.declared.Key.{Key}
 use Rattle.message.specs.declared.Message.{Message}
 use Rattle.maps.specs.Maps.{Map}
-use Rattle.history.specs.History.{most_keys}
 use Rattle.keyrow.specs.Row.{form_word}
 use Rattle.keyrow.specs.View.{head_of, place_of, spn_there}
 use Rattle.lookup.specs.View.{map_in, row_for}
-use Rattle.lookup.specs.Next.{first_key, next_key}
 use Rattle.ask.specs.Ask.{position_of, stands_by}
 use Rattle.written.specs.Written.{record_of}
 use Rattle.locate.specs.Locate.{tells, room_tests, lay_done}
 
--- ---- looking: each key is judged once, and its position is kept
+-- ---- looking: each key is judged once, and its message is kept
 
 -- whether some cell of a row has the SPN
 unfoldable pub mentioned : List ℕ → ℕ → Bool
@@ -25,21 +22,6 @@ mentioned row spn = any (λ i. eqb (spn_there (place_of (get_or row (3 + i) 0)))
 -- the position at which a key answers, 0 where it does not
 unfoldable pub position_told : (ℕ → ℕ) → ℕ → ℕ → Key → Map → ℕ
 position_told width_of own spn k m = cond (tells width_of own spn k m) (position_of width_of m spn) 0
-
--- how many messages that are
-abbrev pub messages_for : ℕ → ℕ
-messages_for position = cond (eqb position 0) 0 1
-
-module _ (width_of : Key → ℕ → ℕ) (t : List ℕ) (own spn : ℕ) where
-  -- the positions of the n keys that a walk still comes to, and 0 where there is none
-  unfoldable pub positions_from : ℕ → Option Key → List ℕ
-  positions_from zero next = []
-  positions_from (suc n) none = 0 ∷ positions_from n none
-  positions_from (suc n) (some k) = position_told (width_of k) own spn k (map_in t k) ∷ positions_from n (next_key t k)
-
-  -- of all the held keys, rising
-  abbrev pub positions_of : List ℕ
-  positions_of = positions_from most_keys (first_key t)
 
 -- ---- laying
 
@@ -51,10 +33,6 @@ message_at width_of t spn k p = record {
   position = p;
   place = record { spn = spn; start = (stands_by width_of (map_in t k) p).start };
 }
-
--- its record, none for the position 0
-abbrev pub piece_at : (ℕ → ℕ) → List ℕ → ℕ → Key → ℕ → List (List ℕ)
-piece_at width_of t spn k p = cond (eqb p 0) [] (record_of (message_at width_of t spn k p) ∷ [])
 
 -- messages laid into a log, one piece for each
 abbrev pub pieces_of : List Message → List (List ℕ)

@@ -3,7 +3,7 @@
 // hold, the call has its defined answer and leaves them.
 #![tactic(auto)]
 
-ghost use Rattle.std.specs.Prelude.{◌≡◌, ◌+◌, ◌*◌, ◌≤◌, ltb, length, cond};
+ghost use Rattle.std.specs.Prelude.{◌≡◌, true, false, ◌+◌, ◌*◌, ◌≤◌, ltb, length, take, cond, MatchOption};
 ghost use Rattle.answers.specs.Answers.{outcome, in_numbers, plain, done};
 ghost use Rattle.text.specs.Text.{page, put, put_all};
 ghost use Rattle.open.specs.Open.{width_for};
@@ -11,13 +11,14 @@ ghost use Rattle.keyrow.specs.Row.{form_word};
 ghost use Rattle.keyrow.specs.View.{head_of};
 ghost use Rattle.lookup.specs.View.{map_in, row_for};
 ghost use Rattle.written.specs.Written.{record_of};
-ghost use Rattle.locate.specs.Locate.{spn_asked, is_ours, located_keys, located, located_by};
-ghost use Rattle.locate.specs.Parts.{mentioned, position_told, messages_for, positions_of, message_at, piece_at, pieces_of, laid_out};
+ghost use Rattle.locate.specs.Locate.{spn_asked, is_ours, tells, located, located_by};
+ghost use Rattle.ask.specs.Ask.{position_of};
+ghost use Rattle.locate.specs.Parts.{mentioned, message_at, pieces_of, laid_out};
 
 use answers::Answer;
 use frame::Three;
-use keyrow::FORM;
-use lookup::{Next, ROWS, Table};
+use keyrow::{CELLS, FORM, ROW_WORDS};
+use lookup::{ROWS, Table};
 use message::{Head, Key, Message, Place};
 use record::SIZE;
 
@@ -27,6 +28,22 @@ const PARAMETER_LOCATE: u8 = 175;
 // The address of everybody.
 const EVERYBODY: u8 = 255;
 
+// What stands behind the messages that are told.
+const NO_MESSAGE: Message = Message {
+    key: Key {
+        source: 0,
+        destination: 0,
+        k: 0,
+    },
+    head: Head {
+        n: 0,
+        proprietary: false,
+        transport: false,
+    },
+    position: 0,
+    place: Place { spn: 0, start: 0 },
+};
+
 // What is asked: an SPN, of our own address.
 #[derive(Clone, Copy)]
 struct Asked {
@@ -34,10 +51,11 @@ struct Asked {
     spn: u32,
 }
 
-// Where the held keys, rising, have the SPN: for each its position, 0 where the key does not answer. And how many answer.
+// The messages of the keys that answer, rising: so many of the first.
+// Kept: an array and how many are filled, as there is no heap here and 16 rows hold no more than 16.
 #[derive(Clone, Copy)]
-struct Places {
-    positions: [u8; ROWS],
+struct Told {
+    messages: [Message; ROWS],
     count: u32,
 }
 
@@ -64,63 +82,80 @@ fn spn_asked(d: &[u8; 8]) -> u32
 // ---- looking
 
 // Whether some cell of a key's row has the SPN. No map has an SPN that its row has not, and to look is far cheaper than to judge.
-fn mentions(row: &[u64], spn: u32) -> bool
+fn mentions(row: &[u64; ROW_WORDS], spn: u32) -> bool
     ensures { result ≡ mentioned row.now spn }
 {
-    let mut i = FORM + 1;
-    while i < row.len() {
+    for i in CELLS..ROW_WORDS {
         if keyrow::spn_of(row[i]) == spn {
             return true;
         }
-        i += 1;
     }
     false
 }
 
-// The position at which a key answers: its source is our own address, its map is usable, and the SPN has that position there. 0 where it does not answer.
-fn position_told(t: &Table, asked: Asked, key: Key) -> u8
-    ensures { result ≡ position_told (width_for t.now key) asked.own asked.spn key (map_in t.now key) }
+// The position at which a key answers: its source is our own address, its map is usable, and the SPN has that position there.
+fn position_told(t: &Table, asked: Asked, key: Key) -> Option<u8>
+    ensures { MatchOption result (tells (width_for t.now key) asked.own asked.spn key (map_in t.now key) ≡ false)
+        (λ p. (tells (width_for t.now key) asked.own asked.spn key (map_in t.now key) ≡ true)
+        × (p ≡ position_of (width_for t.now key) (map_in t.now key) asked.spn)) }
 {
     if key.source != asked.own {
-        return 0;
+        return None;
     }
-    let row = lookup::row_of(t, key.source, key.destination, key.k);
+    let Some(row) = lookup::row_of(t, key) else {
+        return None;
+    };
     if !mentions(row, asked.spn) {
-        return 0;
+        return None;
     }
-    let found = ask::find(t, key.source, key.destination, key.k, asked.spn);
-    found.position // 0 on a refusal
+    let found = ask::find(t, key, asked.spn);
+    if found.position == 0 { // a refusal
+        return None;
+    }
+    Some(found.position)
 }
 
-// One message for a position, none for 0.
-fn one_for(position: u8) -> u32
-    ensures { (result ≡ messages_for position) × (result ≤ 1) }
+// n and the flags as the key's row has them.
+fn head_of(t: &Table, key: Key) -> Head
+    ensures { result ≡ head_of (form_word (row_for t.now key)) }
 {
-    if position == 0 { 0 } else { 1 }
+    match lookup::row_of(t, key) {
+        Some(row) => keyrow::head_of(row[FORM]),
+        None => keyrow::head_of(0),
+    }
 }
 
-// Looks at every held key once; 16 rows hold no more than 16.
-fn look_all(t: &Table, asked: Asked) -> Places
-    ensures { (result.positions ≡ positions_of (width_for t.now) t.now asked.own asked.spn)
-        × (result.count ≡ length (located_keys (width_for t.now) t.now asked.own asked.spn)) }
+// The message of a key that has the SPN at a position.
+fn message_at(t: &Table, asked: Asked, key: Key, position: u8) -> Message
+    ensures { result ≡ message_at (width_for t.now key) t.now asked.spn key position }
 {
-    let mut positions = [0u8; ROWS];
+    let head = head_of(t, key);
+    let there = ask::parameter_at(t, key, position);
+    Message {
+        key,
+        head,
+        position,
+        place: Place {
+            spn: asked.spn,
+            start: there.start,
+        },
+    }
+}
+
+// Looks at every held key once.
+fn look_all(t: &Table, asked: Asked) -> Told
+    ensures { (take result.count result.messages ≡ located (width_for t.now) t.now asked.own asked.spn)
+        × (result.count ≡ length (located (width_for t.now) t.now asked.own asked.spn)) × (result.count ≤ 16) }
+{
+    let mut messages = [NO_MESSAGE; ROWS];
     let mut count = 0;
-    let mut next = lookup::first_key(t);
-    let mut i = 0;
-    while i < ROWS {
-        match next {
-            Next::Found(key) => {
-                let position = position_told(t, asked, key);
-                positions[i] = position;
-                count += one_for(position);
-                next = lookup::next_key(t, key.source, key.destination, key.k);
-            }
-            Next::NoMore => return Places { positions, count },
+    for key in lookup::keys(t) {
+        if let Some(position) = position_told(t, asked, key) {
+            messages[count as usize] = message_at(t, asked, key, position);
+            count += 1;
         }
-        i += 1;
     }
-    Places { positions, count }
+    Told { messages, count }
 }
 
 // Whether a log of so many bytes is too short for `count` records from `start` on.
@@ -134,34 +169,6 @@ fn is_short(size: usize, start: usize, count: u32) -> bool
 }
 
 // ---- laying
-
-// n and the flags as the key's row has them.
-fn head_of(t: &Table, key: Key) -> Head
-    ensures { result ≡ head_of (form_word (row_for t.now key)) }
-{
-    let row = lookup::row_of(t, key.source, key.destination, key.k);
-    if row.len() <= FORM {
-        return keyrow::head_of(0);
-    }
-    keyrow::head_of(row[FORM])
-}
-
-// The message of a key that has the SPN at a position.
-fn message_at(t: &Table, asked: Asked, key: Key, position: u8) -> Message
-    ensures { result ≡ message_at (width_for t.now key) t.now asked.spn key position }
-{
-    let head = head_of(t, key);
-    let there = ask::parameter_at(t, key.source, key.destination, key.k, position);
-    Message {
-        key,
-        head,
-        position,
-        place: Place {
-            spn: asked.spn,
-            start: there.start,
-        },
-    }
-}
 
 // Lays the record of a message at `at`, into the part of the log that starts there, and says where the next one goes; where there is no room, nothing is laid.
 fn put_record(log: &mut [u8], at: usize, m: Message) -> usize
@@ -177,34 +184,13 @@ fn put_record(log: &mut [u8], at: usize, m: Message) -> usize
     at
 }
 
-// Lays the record of a key that answers.
-fn put_told(t: &Table, asked: Asked, key: Key, position: u8, log: &mut [u8], at: usize) -> usize
-    ensures { page result log.new ≡ put_all (page at log.old) (piece_at (width_for t.now key) t.now asked.spn key position) }
-{
-    if position == 0 {
-        return at;
-    }
-    put_record(log, at, message_at(t, asked, key, position))
-}
-
-// Lays the records of the keys that answer, rising.
-fn put_all(t: &Table, asked: Asked, positions: &[u8; ROWS], log: &mut [u8], start: usize) -> usize
-    requires { positions.now ≡ positions_of (width_for t.now) t.now asked.own asked.spn }
-    ensures { page result log.new
-        ≡ put_all (page start log.old) (pieces_of (located (width_for t.now) t.now asked.own asked.spn)) }
+// Lays the records of the messages.
+fn put_all(messages: &[Message], log: &mut [u8], start: usize) -> usize
+    ensures { page result log.new ≡ put_all (page start log.old) (pieces_of messages.now) }
 {
     let mut at = start;
-    let mut next = lookup::first_key(t);
-    let mut i = 0;
-    while i < ROWS {
-        match next {
-            Next::Found(key) => {
-                at = put_told(t, asked, key, positions[i], log, at);
-                next = lookup::next_key(t, key.source, key.destination, key.k);
-            }
-            Next::NoMore => return at,
-        }
-        i += 1;
+    for m in messages {
+        at = put_record(log, at, *m);
     }
     at
 }
@@ -225,13 +211,13 @@ fn answer_none(size: usize, start: usize) -> Answer
 fn answer_all(t: &Table, asked: Asked, log: &mut [u8], start: usize) -> Answer
     ensures { outcome (in_numbers result) log.new ≡ laid_out (located (width_for t.now) t.now asked.own asked.spn) log.old start }
 {
-    let places = look_all(t, asked);
-    let positions = places.positions;
-    let count = places.count;
+    let told = look_all(t, asked);
+    let messages = told.messages;
+    let count = told.count;
     if is_short(log.len(), start, count) { // before the first byte is written
         return answers::plainly(13);
     }
-    put_all(t, asked, &positions, log, start);
+    put_all(&messages[..count as usize], log, start);
     answers::with_detail(0, count)
 }
 
@@ -250,9 +236,8 @@ pub fn locate(
         ≡ located_by (width_for t.now) t.now own id len d.now log.old start }
 {
     let f = frame::split(id);
-    let bad = message::served_fault(PARAMETER_LOCATE, id, len, f);
-    if bad != 0 {
-        return answers::plainly(bad);
+    if let Some(fault) = message::served_fault(PARAMETER_LOCATE, id, len, f) {
+        return answers::plainly(u8::from(fault));
     }
     if d[7] != 0 { // another command
         return answers::plainly(24);

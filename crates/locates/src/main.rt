@@ -8,24 +8,18 @@
 //   4 key, edition                   gives the key that edition; no line
 #![tactic(auto)]
 
-use lines::{STDIN_FILENO, bytes, end, first, four, front, more, two};
+use lines::{STDIN_FILENO, bytes, eight, end, first, four, front, more, two};
 use lookup::{Table, WORDS};
-
-// The eight data bytes of a case.
-fn data(b: &[u8; 32]) -> [u8; 8] {
-    [b[6], b[7], b[8], b[9], b[10], b[11], b[12], b[13]]
-}
+use message::Key;
 
 // The start, of eight bytes.
 fn start(b: &[u8; 32]) -> usize {
-    let low = four(b[17], b[18], b[19], b[20]) as usize;
-    let high = four(b[21], b[22], b[23], b[24]) as usize;
-    low + high * 4294967296
+    usize::from_le_bytes(eight(b, 17))
 }
 
 fn locate(t: &Table, b: &[u8; 32], log: &mut [u8]) {
     io::read_full(STDIN_FILENO, log);
-    let d = data(b);
+    let d = eight(b, 6);
     let a = locate::locate(
         t,
         b[14],
@@ -48,18 +42,28 @@ fn lend(t: &Table, b: &[u8; 32]) {
     locate(t, b, &mut log[..n]);
 }
 
+// The key that a case names.
+fn key_in(b: &[u8; 32]) -> Key {
+    Key {
+        source: b[1],
+        destination: b[2],
+        k: b[3],
+    }
+}
+
 fn run(t: &mut Table, b: &[u8; 32]) {
+    // Kept: a number, since the tag is a byte of the files that tests/model.py writes (tests/README.md).
     match b[0] {
         0 => table::empty(t),
         1 => {
-            let d = data(b);
+            let d = eight(b, 6);
             table::learn(t, four(b[1], b[2], b[3], b[4]), b[5], &d);
         }
         2 => {
-            table::forget(t, b[1], b[2], b[3]);
+            table::forget(t, key_in(b));
         }
         4 => {
-            edition::set_edition(t, b[1], b[2], b[3], four(b[4], b[5], b[6], b[7]));
+            edition::set_edition(t, key_in(b), four(b[4], b[5], b[6], b[7]));
         }
         _ => lend(t, b),
     }
@@ -68,11 +72,7 @@ fn run(t: &mut Table, b: &[u8; 32]) {
 // What the calls are lent stands here. A proved loop has to end, so it counts its turns, up to a number that no run uses up.
 fn main() {
     let mut t = [0u64; WORDS];
-    let mut b = [0u8; 32];
-    for _ in 0..u64::MAX {
-        if !lines::case(&mut b) {
-            break;
-        }
+    for b in (0..u64::MAX).map_while(|_| lines::next_case()) {
         run(&mut t, &b);
     }
 }

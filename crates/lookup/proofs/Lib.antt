@@ -3,3 +3,4 @@ pub mod Slots
 pub mod KeyRow
 pub mod Lowest
 pub mod Readings
+pub mod Walks

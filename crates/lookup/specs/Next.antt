@@ -1,20 +1,19 @@
 -- The held keys one after another, rising by source, destination and k (01, "The listing program"). On any words: a row counts whose key is a number
 -- below 2^24, as every key's is.
 -- Assumes nothing.
-use Rattle.std.specs.Prelude.{ℕ, zero, suc, ◌+◌, ◌<◌, ◌≡◌, ◌⊎◌, Bool, cond, ◌&&◌, List, [], ◌∷◌, leb, ltb}
+use Rattle.std.specs.Prelude.{ℕ, zero, suc, ◌+◌, ◌<◌, ◌≡◌, ◌⊎◌, Bool, cond, ◌&&◌, List, [], ◌∷◌, leb, ltb, Option as Known, Some, None}
 use Rattle.std.proofs.Math.Option.{Option, none, some}
 use Rattle.words.specs.First.{first}
 use Rattle.message.specs.declared.Key.{Key}
 use Rattle.history.specs.History.{most_keys}
 use Rattle.keyrow.specs.Row.{key_number, key_numbers, key_named}
-use Rattle.lookup.specs.declared.Next.{Next}
-use Rattle.lookup.specs.declared.Next.TheVariants.{Found, NoMore}
+use Rattle.lookup.specs.declared.Walk.{Walk}
 use Rattle.lookup.specs.Layout.{slot_of}
 
--- what each case of the code's enum stands for
-abbrev pub key_found : Next → Option Key
-key_found (Found k) = some k
-key_found NoMore = none
+-- the code's option as this one
+abbrev pub key_found : Known Key → Option Key
+key_found (Some k) = some k
+key_found None = none
 
 -- some row holds the key with this number
 abbrev pub holds_key : List ℕ → ℕ → Bool
@@ -46,6 +45,10 @@ walk (suc n) t (some k) = k ∷ walk n t (next_key t k)
 -- the held keys, as first_key and then next_key give them
 abbrev pub held_keys : List ℕ → List Key
 held_keys t = walk most_keys t (first_key t)
+
+-- the keys that a walk of the code still gives
+abbrev pub keys_left : Walk → List Key
+keys_left w = walk w.left w.t.now (key_found w.next)
 
 -- "rising by source, destination, k"
 abbrev pub Below : Key → Key → Type 0

@@ -12,8 +12,7 @@ use mir.Val.{SFits, to_z, of_z}
 use mir.ValLaws.{to_z-of_z}
 use borrow.Author.Tests.{eq-eqb, ne_eqb, lt-ltb, le-ltb}
 use Rattle.rowrule.specs.Rows.{row_count, row_at}
-use Rattle.dictionary.specs.declared.Found.{Found}
-use Rattle.dictionary.specs.Dictionary.{width_of, number_of, found_row}
+use Rattle.dictionary.specs.Dictionary.{width_of, number_of}
 use Rattle.dictionary.proofs.Table.{number_here, number-nowhere, number_some, width_absent}
 use Rattle.words.proofs.Tests.{test}
 use Rattle.slots.specs.declared.Slot.{Slot}
@@ -66,6 +65,10 @@ pub unknown : (spn : ℕ) → width_of spn ≡ 0 → meaning_of spn ≡ record {
 unfolding meaning_of slot_of kind_of
 unknown spn z = rw (z, ← number-nowhere spn (width_absent spn z))
 
+pub unknown_scaled : (spn number : ℕ) → width_of spn ≡ 0 → scaled_of spn number ≡ record { value = pos 0; kind = 0; state = 0 }
+unfolding scaled_of kind_of state_by
+unknown_scaled spn number z = let e : number * 0 ≡ 0 = omega arith in rw (z, unknown spn z, e)
+
 -- ---- scaled numbers
 
 module _ (spn number : ℕ) where
@@ -94,7 +97,7 @@ module _ (spn number : ℕ) where
 pub kept : (a b : ℕ) → a ≤ 2 ^ 62 → b ≤ 2 ^ 62 → (z : ℤ) → z ≡ pos a -ℤ pos b → to_z w64 (of_z w64 z) ≡ pos a -ℤ pos b
 kept a b l m z e = rw e (to_z-of_z w64 (pos a -ℤ pos b) (record { sfits = less_fits a b (omega (arith, l)) (omega (arith, m)) }))
 
-module _ (spn w k : ℕ) (f : Found) (s : Slot) (number_is : found_row f ≡ number_of spn) (width_is : w ≡ width_of spn) (kind-is : k ≡ kind_of w) (slot_is : s ≡ slot_in (found_row f)) where
+module _ (spn i w k : ℕ) (s : Slot) (number_is : some i ≡ number_of spn) (width_is : w ≡ width_of spn) (kind-is : k ≡ kind_of w) (slot_is : s ≡ slot_at i) where
   -- the slot found is the SPN's, and small
   slot_found : s ≡ slot_of spn
   unfolding slot_of

@@ -3,13 +3,12 @@
 #![tactic(auto)]
 
 ghost use Rattle.std.specs.Prelude.{◌≡◌, ◌≤◌, ◌^◌, pos, ◌-ℤ◌};
-ghost use Rattle.dictionary.specs.Dictionary.{found_row};
-ghost use Rattle.meaning.specs.Meaning.{slot_in, slot_of, meaning_of, scaled_of};
+ghost use Rattle.meaning.specs.Meaning.{meaning_of, scaled_of};
 
-use dictionary::Found;
-use slots::Slot;
+use states::State;
 
-// What an SPN's numbers are; all 0 where the dictionary does not have it. Resolution and offset are in thousandths of its unit. C gets it as it is.
+// What an SPN's numbers are; all 0 where the dictionary does not have it. Resolution and offset are in thousandths of its unit.
+// Kept: kind and state are numbers here and in `Scaled`, and an unknown SPN is zeros, since C gets both structs as they are (include/yendrolf.h).
 #[repr(C)]
 #[derive(Clone, Copy)]
 pub struct Meaning {
@@ -19,26 +18,13 @@ pub struct Meaning {
     pub kind: u32, // states has the list
 }
 
-// A number in thousandths of its unit, and 0 where its state is not 0 (valid) or its kind is 0 (the dictionary does not have the SPN). C gets it as it is.
+// A number in thousandths of its unit, and 0 where its state is not 0 (valid) or its kind is 0 (the dictionary does not have the SPN).
 #[repr(C)]
 #[derive(Clone, Copy)]
 pub struct Scaled {
     pub value: i64,
     pub kind: u32,
     pub state: u32, // states has the list
-}
-
-// The slot of the row that a look-up found; zeros where it found none.
-fn slot_in(found: Found) -> Slot
-    ensures { result ≡ slot_in (found_row found) }
-{
-    match found {
-        Found::At(row) => slots::slot_of(row),
-        Found::Nothing => Slot {
-            resolution: 0,
-            below: 0,
-        },
-    }
 }
 
 // x less y, with its sign.
@@ -53,9 +39,15 @@ fn less(x: u64, y: u64) -> i64
 pub fn meaning_of(spn: u32) -> Meaning
     ensures { result ≡ meaning_of spn }
 {
-    let entry = dictionary::entry_of(spn);
-    let found = entry.found;
-    let slot = slot_in(found);
+    let Some(entry) = dictionary::entry_of(spn) else {
+        return Meaning {
+            offset: 0,
+            resolution: 0,
+            width: 0,
+            kind: 0,
+        };
+    };
+    let slot = slots::slot_of(entry.row);
     let offset = less(0, slot.below as u64);
     let kind = states::kind_of(entry.width);
     Meaning {
@@ -70,18 +62,23 @@ pub fn meaning_of(spn: u32) -> Meaning
 pub fn scaled_of(spn: u32, number: u32) -> Scaled
     ensures { result ≡ scaled_of spn number }
 {
-    let entry = dictionary::entry_of(spn);
+    let Some(entry) = dictionary::entry_of(spn) else {
+        return Scaled {
+            value: 0,
+            kind: 0,
+            state: 0,
+        };
+    };
     let kind = states::kind_of(entry.width);
-    let state = states::state_by(kind, number);
-    if state != states::VALID {
+    let state = kind.judge(number);
+    if state != State::Valid {
         return Scaled {
             value: 0,
             kind: kind as u32,
             state: state as u32,
         };
     }
-    let found = entry.found;
-    let slot = slot_in(found);
+    let slot = slots::slot_of(entry.row);
     let value = less(
         (number as u64) * (slot.resolution as u64),
         slot.below as u64,

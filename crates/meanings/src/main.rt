@@ -10,14 +10,14 @@ fn signed(n: i64) {
         io::write_all(STDOUT_FILENO, b" -");
         io::print_decimal(STDOUT_FILENO, n.unsigned_abs());
     } else {
-        lines::long(n.unsigned_abs());
+        more(n.unsigned_abs());
     }
 }
 
 fn line(spn: u32, number: u32) {
     let meaning = meaning::meaning_of(spn);
     let scaled = meaning::scaled_of(spn, number);
-    io::print_decimal(STDOUT_FILENO, meaning.width as u64);
+    lines::first(meaning.width);
     more(meaning.resolution);
     signed(meaning.offset);
     more(meaning.kind);
@@ -32,11 +32,7 @@ fn run(b: &[u8; 8]) {
 
 // A proved loop has to end, so it counts its turns, up to a number that no run uses up.
 fn main() {
-    let mut b = [0u8; 8];
-    for _ in 0..u64::MAX {
-        if !lines::case(&mut b) {
-            break;
-        }
+    for b in (0..u64::MAX).map_while(|_| lines::next_case()) {
         run(&b);
     }
 }

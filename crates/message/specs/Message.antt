@@ -1,7 +1,7 @@
 -- What one Configuration Identification Message says: the fields of its eight bytes (002, 5.3.1; docs/WIRE.md), and document 01's answers
 -- 1 to 8, tested in order.
 -- Assumes nothing.
-use Rattle.std.specs.Prelude.{ℕ, ◌+◌, ◌-◌, ◌/◌, ◌%◌, ◌^◌, Bool, cond, not, ◌||◌, ◌&&◌, List, [], ◌∷◌, ◌++◌, eqb, leb, ltb, get_or}
+use Rattle.std.specs.Prelude.{ℕ, ◌+◌, ◌-◌, ◌/◌, ◌%◌, ◌^◌, Bool, cond, not, ◌||◌, ◌&&◌, List, [], ◌∷◌, ◌++◌, Result, Ok, Err, eqb, leb, ltb, get_or}
 use Rattle.std.proofs.Math.Option.{Option, none, some}
 use Rattle.answers.specs.Tests.{Test, ◌when◌, first_number_of}
 use Rattle.frame.specs.declared.Fields.{Fields}
@@ -9,8 +9,8 @@ use Rattle.frame.specs.declared.Three.{Three}
 use Rattle.frame.specs.Frame.{greatest_identifier, bits, fields_of, pgn_of, destination_of, three_of, spn_of, rest_of}
 use Rattle.message.specs.declared.Wire.{Wire}
 use Rattle.message.specs.declared.Message.{Message}
-use Rattle.message.specs.declared.Decoded.{Decoded}
-use Rattle.message.specs.declared.Decoded.TheVariants.{Refused, Taken}
+use Rattle.message.specs.declared.Fault.{Fault}
+use Rattle.message.specs.Fault.{fault_number}
 
 -- ---- the wire
 
@@ -95,10 +95,10 @@ pub record Heard : Type 0 where
   pub number : ℕ
   pub message : Option Message
 
--- what each case of the code's enum stands for
-abbrev pub heard_of : Decoded → Heard
-heard_of (Refused n) = record { number = n; message = none }
-heard_of (Taken m) = record { number = 0; message = some m }
+-- what the code's answer stands for
+abbrev pub heard_of : Result Message Fault → Heard
+heard_of (Err x) = record { number = fault_number x; message = none }
+heard_of (Ok m) = record { number = 0; message = some m }
 
 -- the message where there is no refusal
 abbrev pub heard_from : ℕ → Fields → Wire → Heard

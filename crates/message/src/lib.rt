@@ -1,15 +1,16 @@
 // What one Configuration Identification Message says (01, "What one message says"; docs/WIRE.md has 002's words).
 #![tactic(auto)]
 
-ghost use Rattle.std.specs.Prelude.{◌≡◌, ◌*◌, ◌-◌, ◌^◌, not, eqb};
+ghost use Rattle.std.specs.Prelude.{◌≡◌, ◌*◌, ◌^◌, not, eqb};
 ghost use Rattle.frame.specs.Frame.{pgn_of};
 ghost use Rattle.message.specs.Message.{wire_of, foreign, unflagged, miscounted, misplaced, served_tests, frame_tests, data_tests, message_of, heard_of, heard_from, heard};
+ghost use Rattle.message.specs.Fault.{fault_number, number_told};
 ghost use Rattle.answers.specs.Tests.{first_number_of};
 
-use frame::{Fields, Three, pick8};
+use frame::{Fields, Three};
 
 // Whom a message names: k is the number of the configurable message, 1 to 15.
-#[derive(Clone, Copy)]
+#[derive(Clone, Copy, PartialEq, Eq)]
 pub struct Key {
     pub source: u8,
     pub destination: u8,
@@ -40,11 +41,45 @@ pub struct Message {
     pub place: Place,
 }
 
-// A refusal, 1 to 8, or the message.
-#[derive(Clone, Copy)]
-pub enum Decoded {
-    Refused(u8),
-    Taken(Message),
+// Why a frame is refused as a message, in the order of the tests.
+#[derive(Clone, Copy, PartialEq, Eq)]
+pub enum Fault {
+    Identifier, // above 29 bits
+    OtherPgn, // than the one that the call serves
+    Length,
+    Source, // 254 or 255
+    Foreign, // the configured PGN
+    Unflagged,
+    Miscounted,
+    Misplaced,
+}
+
+// Its number in 01.
+impl From<Fault> for u8 {
+    ghost from_gives = { λ fault n. n ≡ fault_number fault };
+
+    fn from(fault: Fault) -> u8 {
+        match fault {
+            Fault::Identifier => 1,
+            Fault::OtherPgn => 2,
+            Fault::Length => 3,
+            Fault::Source => 4,
+            Fault::Foreign => 5,
+            Fault::Unflagged => 6,
+            Fault::Miscounted => 7,
+            Fault::Misplaced => 8,
+        }
+    }
+}
+
+// The number of a fault, 0 where there is none.
+pub fn number_told(fault: Option<Fault>) -> u8
+    ensures { result ≡ number_told fault }
+{
+    match fault {
+        Some(fault) => u8::from(fault),
+        None => 0,
+    }
 }
 
 // The fields of the eight bytes, as they stand on the wire.
@@ -126,13 +161,20 @@ pub fn is_of(pf: u8, f: Fields) -> bool
     (f.reserved == 0) & (f.page == 0) & (f.pf == pf) & ((pf < 240) | (f.ps == 0))
 }
 
-// For later calls on a frame: the first of 1, 2 (by the PGN that a call serves, 256 times a PF) and 3 that applies, or 0. No data byte is asked for.
-pub fn served_fault(pf: u8, id: u32, len: u8, f: Fields) -> u8
-    ensures { result ≡ first_number_of (served_tests (pf * 2 ^ 8) id len f) 0 }
+// For later calls on a frame: the first of 1, 2 (by the PGN that a call serves, 256 times a PF) and 3 that applies. No data byte is asked for.
+pub fn served_fault(pf: u8, id: u32, len: u8, f: Fields) -> Option<Fault>
+    ensures { number_told result ≡ first_number_of (served_tests (pf * 2 ^ 8) id len f) 0 }
 {
-    let three = pick8(len != 8, 3, 0);
-    let two = pick8(!is_of(pf, f), 2, three);
-    pick8(frame::GREATEST < id, 1, two)
+    if frame::GREATEST < id {
+        return Some(Fault::Identifier);
+    }
+    if !is_of(pf, f) {
+        return Some(Fault::OtherPgn);
+    }
+    if len != 8 {
+        return Some(Fault::Length);
+    }
+    None
 }
 
 // Whether one of them applies: one comparison, for calls that ask for the number only where there is one.
@@ -142,31 +184,36 @@ pub fn is_refused(pf: u8, id: u32, len: u8, f: Fields) -> bool
     (frame::GREATEST < id) | !is_of(pf, f) | (len != 8)
 }
 
-// The first of 1 to 4 that applies, or 0. No data byte is asked for.
-pub fn frame_fault(id: u32, len: u8, f: Fields) -> u8
-    ensures { result ≡ first_number_of (frame_tests id len f) 0 }
+// The first of 1 to 4 that applies. No data byte is asked for.
+pub fn frame_fault(id: u32, len: u8, f: Fields) -> Option<Fault>
+    ensures { number_told result ≡ first_number_of (frame_tests id len f) 0 }
 {
-    let four = pick8(254 <= f.source, 4, 0);
-    let three = pick8(len != 8, 3, four);
-    let two = pick8(!is_of(CONFIGURATION, f), 2, three);
-    pick8(frame::GREATEST < id, 1, two)
+    if let Some(fault) = served_fault(CONFIGURATION, id, len, f) {
+        return Some(fault);
+    }
+    if 254 <= f.source {
+        return Some(Fault::Source);
+    }
+    None
 }
 
-// The first of 5 to 8 that applies, or 0.
-pub fn data_fault(w: Wire) -> u8
-    ensures { result ≡ first_number_of (data_tests w) 0 }
+// The first of 5 to 8 that applies.
+pub fn data_fault(w: Wire) -> Option<Fault>
+    ensures { number_told result ≡ first_number_of (data_tests w) 0 }
 {
-    let eight = pick8(is_misplaced(w.start as u32), 8, 0);
-    let seven = pick8(is_miscounted(w.n, w.position, w.first), 7, eight);
-    let six = pick8(is_unflagged(w.proprietary, w.transport, w.first), 6, seven);
-    pick8(is_foreign(w.pgn), 5, six)
-}
-
-// x less y, and 0 where that is below 0.
-pub fn less(x: u32, y: u32) -> u32
-    ensures { result ≡ x - y }
-{
-    if x < y { 0 } else { x - y }
+    if is_foreign(w.pgn) {
+        return Some(Fault::Foreign);
+    }
+    if is_unflagged(w.proprietary, w.transport, w.first) {
+        return Some(Fault::Unflagged);
+    }
+    if is_miscounted(w.n, w.position, w.first) {
+        return Some(Fault::Miscounted);
+    }
+    if is_misplaced(w.start as u32) {
+        return Some(Fault::Misplaced);
+    }
+    None
 }
 
 // What is kept of a well-formed message: first-only is not, priority is not.
@@ -174,8 +221,8 @@ pub fn kept(f: Fields, w: Wire) -> Message
     ensures { result ≡ message_of f w }
 {
     let destination = frame::destination(f);
-    let k = less(w.pgn / 256 % 256, 176);
-    let start = less(w.start as u32, 1);
+    let k = (w.pgn / 256 % 256).saturating_sub(176);
+    let start = (w.start as u32).saturating_sub(1);
     Message {
         key: Key {
             source: f.source,
@@ -193,25 +240,23 @@ pub fn kept(f: Fields, w: Wire) -> Message
 }
 
 // The answer to the eight bytes of a frame that passed 1 to 4.
-pub fn from_wire(f: Fields, w: Wire) -> Decoded
+pub fn from_wire(f: Fields, w: Wire) -> Result<Message, Fault>
     ensures { heard_of result ≡ heard_from (first_number_of (data_tests w) 0) f w }
 {
-    let bad = data_fault(w);
-    if bad == 0 {
-        Decoded::Taken(kept(f, w))
-    } else {
-        Decoded::Refused(bad)
+    match data_fault(w) {
+        Some(fault) => Err(fault),
+        None => Ok(kept(f, w)),
     }
 }
 
 // The answer to any frame. Answers 1 to 4 are given before a data byte is read.
-pub fn decode(id: u32, len: u8, d: &[u8; 8]) -> Decoded
+// Kept: identifier, length and the eight bytes by themselves, here and in the rooms above that take a frame: C lends them so (include/yendrolf.h).
+pub fn decode(id: u32, len: u8, d: &[u8; 8]) -> Result<Message, Fault>
     ensures { heard_of result ≡ heard id len d.now }
 {
     let f = frame::split(id);
-    let bad = frame_fault(id, len, f);
-    if bad == 0 {
-        return from_wire(f, from_bytes(d));
+    match frame_fault(id, len, f) {
+        Some(fault) => Err(fault),
+        None => from_wire(f, from_bytes(d)),
     }
-    Decoded::Refused(bad)
 }

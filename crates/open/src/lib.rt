@@ -2,22 +2,24 @@
 // defined answer and leaves them. The SPNs, starts and widths go into arrays that the caller lends, one number for each position from 1 to n.
 #![tactic(auto)]
 
-ghost use Rattle.std.specs.Prelude.{◌≡◌, cond, ◌≤◌, eqb, length};
+ghost use Rattle.std.specs.Prelude.{◌≡◌, cond, ◌≤◌, eqb};
 ghost use Rattle.words.specs.First.{any};
 ghost use Rattle.answers.specs.Answers.{said_of, at};
 ghost use Rattle.judge.specs.Judge.{spn_in, start_in, mark, judge as judge_of};
-ghost use Rattle.keyrow.specs.Row.{row_words, positions, key_of};
+ghost use Rattle.keyrow.specs.Row.{positions};
 ghost use Rattle.keyrow.specs.View.{row_map, row_as};
 ghost use Rattle.open.specs.Open.{map_as, width_row, width_for, marked_width, reach, opened_in, opened_by};
 ghost use Rattle.open.specs.Unfolded.{unfolded, unfolded_in, empty_at, marked_to};
 ghost use Rattle.lookup.specs.View.{map_in};
 
 use answers::{Answer, Judgement};
-use keyrow::{CELLS, FORM, HELD, POSITIONS, STATE};
+use keyrow::{CELLS, FORM, HELD, POSITIONS, ROW_WORDS, STATE};
 use lookup::Table;
+use message::Key;
 
 // What opening a key's map gives: 11, or 0 with the judgement; the judgement of what its row holds, which of a key in conflict is that of the map before the contradiction; n and the flags, all 0 where the
 // key is not held.
+// Kept: no Option where the key is not held: judging hands on `answer` in every case, and `opened_by`, which the promise cites, says each field there too.
 #[derive(Clone, Copy)]
 pub struct Opened {
     pub answer: Answer,
@@ -31,29 +33,29 @@ pub struct Opened {
 fn reach_of(n: u8) -> usize
     ensures { (result ≡ reach n) × (result ≤ positions) }
 {
-    let n = n as usize;
-    if POSITIONS < n {
-        return POSITIONS;
-    }
-    n
+    POSITIONS.min(n as usize)
 }
 
 // ---- the lists
 
 // Lays SPN and start of each of the first n cells, and says whether one of them is empty.
-fn lay_places(row: &[u64], n: usize, spns: &mut [u32], starts: &mut [u32]) -> bool
-    requires { (length row.now ≡ row_words) × (n ≤ positions) × (length spns.old ≡ positions) × (length starts.old ≡ positions) }
+// Kept: `n ≤ positions` as a clause of four private functions: n comes from reach_of, and a type for it would be taken apart in each loop.
+fn lay_places(
+    row: &[u64; ROW_WORDS],
+    n: usize,
+    spns: &mut [u32; POSITIONS],
+    starts: &mut [u32; POSITIONS],
+) -> bool
+    requires { n ≤ positions }
     ensures { (spns.new ≡ unfolded spn_in row.now n spns.old)
         × (starts.new ≡ unfolded start_in row.now n starts.old) × (result ≡ any (empty_at row.now) n) }
 {
     let mut empty = false;
-    let mut i = 0;
-    while i < n {
+    for i in 0..n {
         let cell = row[CELLS + i];
         empty |= cell == 0;
         spns[i] = keyrow::spn_of(cell);
         starts[i] = keyrow::start_of(cell);
-        i += 1;
     }
     empty
 }
@@ -69,20 +71,18 @@ fn mark_or(cell: u64, width: u32) -> u32
 }
 
 // Marks the positions of the first n at which nothing stands.
-fn mark_missing(row: &[u64], n: usize, widths: &mut [u32])
-    requires { (length row.now ≡ row_words) × (n ≤ positions) × (length widths.old ≡ positions) }
+fn mark_missing(row: &[u64; ROW_WORDS], n: usize, widths: &mut [u32; POSITIONS])
+    requires { n ≤ positions }
     ensures { widths.new ≡ marked_to row.now n widths.old }
 {
-    let mut i = 0;
-    while i < n {
+    for i in 0..n {
         widths[i] = mark_or(row[CELLS + i], widths[i]);
-        i += 1;
     }
 }
 
 // The same, where it is known whether one of the cells is empty: of most maps none is, and the widths stay as they are.
-fn mark_where(empty: bool, row: &[u64], n: usize, widths: &mut [u32])
-    requires { (length row.now ≡ row_words) × (n ≤ positions) × (length widths.old ≡ positions) × (empty ≡ any (empty_at row.now) n) }
+fn mark_where(empty: bool, row: &[u64; ROW_WORDS], n: usize, widths: &mut [u32; POSITIONS])
+    requires { (n ≤ positions) × (empty ≡ any (empty_at row.now) n) }
     ensures { widths.new ≡ marked_to row.now n widths.old }
 {
     if empty {
@@ -91,8 +91,14 @@ fn mark_where(empty: bool, row: &[u64], n: usize, widths: &mut [u32])
 }
 
 // Unfolds the first n cells of a row as SPNs, starts and widths. Every width that a call uses comes from here, from one look-up of all SPNs by the row's edition.
-fn unfold_row(row: &[u64], n: usize, spns: &mut [u32], starts: &mut [u32], widths: &mut [u32])
-    requires { (length row.now ≡ row_words) × (n ≤ positions) × (length spns.old ≡ positions) × (length starts.old ≡ positions) × (length widths.old ≡ positions) }
+fn unfold_row(
+    row: &[u64; ROW_WORDS],
+    n: usize,
+    spns: &mut [u32; POSITIONS],
+    starts: &mut [u32; POSITIONS],
+    widths: &mut [u32; POSITIONS],
+)
+    requires { n ≤ positions }
     ensures { (spns.new ≡ unfolded spn_in row.now n spns.old)
         × (starts.new ≡ unfolded start_in row.now n starts.old)
         × (widths.new ≡ unfolded marked_width row.now n widths.old) }
@@ -104,8 +110,12 @@ fn unfold_row(row: &[u64], n: usize, spns: &mut [u32], starts: &mut [u32], width
 }
 
 // Unfolds a row as far as its n asks, and judges what it holds, in conflict or not. A position past the 64 is missing.
-fn judge_row(row: &[u64], spns: &mut [u32], starts: &mut [u32], widths: &mut [u32]) -> Judgement
-    requires { (length row.now ≡ row_words) × (length spns.old ≡ positions) × (length starts.old ≡ positions) × (length widths.old ≡ positions) }
+fn judge_row(
+    row: &[u64; ROW_WORDS],
+    spns: &mut [u32; POSITIONS],
+    starts: &mut [u32; POSITIONS],
+    widths: &mut [u32; POSITIONS],
+) -> Judgement
     ensures { (said_of result ≡ judge_of (width_row row.now) (row_as row.now)) × (spns.new ≡ unfolded_in spn_in row.now spns.old)
         × (starts.new ≡ unfolded_in start_in row.now starts.old)
         × (widths.new ≡ unfolded_in marked_width row.now widths.old) }
@@ -116,6 +126,7 @@ fn judge_row(row: &[u64], spns: &mut [u32], starts: &mut [u32], widths: &mut [u3
 }
 
 // The judgement of a row's map: in conflict, whatever the cells say, or that of what it holds.
+// Kept: a number for the state: it is a word of the table, which C lends and may hold anything.
 #[tactic(auto, using(std::proofs::lemmas::Bool::Decides::nat_tests))]
 fn judgement_of(state: u64, was: Judgement) -> Judgement
     ensures { said_of result ≡ cond (eqb state 1) (said_of was) (at 1 0) }
@@ -127,8 +138,12 @@ fn judgement_of(state: u64, was: Judgement) -> Judgement
 }
 
 // Opens the map of a row.
-fn open_row(row: &[u64], spns: &mut [u32], starts: &mut [u32], widths: &mut [u32]) -> Opened
-    requires { (length row.now ≡ row_words) × (length spns.old ≡ positions) × (length starts.old ≡ positions) × (length widths.old ≡ positions) }
+fn open_row(
+    row: &[u64; ROW_WORDS],
+    spns: &mut [u32; POSITIONS],
+    starts: &mut [u32; POSITIONS],
+    widths: &mut [u32; POSITIONS],
+) -> Opened
     ensures { opened_in result spns.new starts.new widths.new
         ≡ opened_by (width_row row.now) (row_map row.now) (row_as row.now) spns.old starts.old widths.old }
 {
@@ -149,21 +164,18 @@ fn open_row(row: &[u64], spns: &mut [u32], starts: &mut [u32], widths: &mut [u32
 // Opens a key's map: 11, and the arrays are left as they were; else 0 with the judgement, n and the flags, and SPN, start and width of each position from 1 to
 // n, at most 64, over the start of the arrays. The width is `judge::MISSING` where nothing stands, and 0 where the dictionary of the key's edition does not have the SPN. Of a
 // key in conflict the row is read as it stood when the conflict came.
+// Kept: three arrays, and no array of parameters: `dictionary::widths_of` lays all widths at once, and `payload` takes starts and widths alone.
 pub fn open(
     t: &Table,
-    source: u8,
-    destination: u8,
-    k: u8,
+    key: Key,
     spns: &mut [u32; POSITIONS],
     starts: &mut [u32; POSITIONS],
     widths: &mut [u32; POSITIONS],
 ) -> Opened
     ensures { opened_in result spns.new starts.new widths.new
-        ≡ opened_by (width_for t.now (key_of source destination k)) (map_in t.now (key_of source destination k))
-        (map_as t.now (key_of source destination k)) spns.old starts.old widths.old }
+        ≡ opened_by (width_for t.now key) (map_in t.now key) (map_as t.now key) spns.old starts.old widths.old }
 {
-    let row = lookup::row_of(t, source, destination, k);
-    if row.len() == 0 {
+    let Some(row) = lookup::row_of(t, key) else {
         let answer = answers::plainly(11);
         return Opened {
             answer,
@@ -172,6 +184,6 @@ pub fn open(
             proprietary: false,
             transport: false,
         };
-    }
+    };
     open_row(row, spns, starts, widths)
 }

@@ -1,11 +1,13 @@
 -- What a directed pair of ports is, what its commands do to it and what it answers (01, "Port pairs"), with no word of memory.
 -- Assumes nothing.
-use Rattle.std.specs.Prelude.{◌≡◌, Bool, true, false, ◌&&◌, ◌||◌, not, cond, List, [], ◌∷◌, ℕ, ◌+◌, ◌-◌, ◌%◌, ◌^◌, ◌<◌, eqb, ltb, leb}
+use Rattle.std.specs.Prelude.{◌≡◌, Bool, true, false, ◌&&◌, ◌||◌, not, cond, List, [], ◌∷◌, ℕ, ◌+◌, ◌-◌, ◌%◌, ◌^◌, ◌<◌, eqb, ltb, leb, Result, Ok, Err}
 use Rattle.answers.specs.Answers.{Said, plain, done}
 use Rattle.answers.specs.Tests.{Test, ◌when◌, first_number_of}
 use Rattle.frame.specs.Frame.{greatest_identifier, bits, fields_of, pgn_of}
 use Rattle.pairs.specs.declared.Command.{Command}
 use Rattle.pairs.specs.declared.Command.TheVariants.{Add, Delete, Renew}
+use Rattle.pairs.specs.declared.Refusal.{Refusal}
+use Rattle.pairs.specs.declared.Refusal.TheVariants.{NoPair, Full, IllFormed, NotListed, NoMode}
 
 -- "a list of up to 32 PGNs"
 abbrev pub room : ℕ
@@ -49,6 +51,15 @@ tests_for p (Renew m) = 19 when ltb 1 m ∷ []
 -- the number of the answer to a command
 unfoldable pub answer_to : Pair → Command → ℕ
 answer_to p c = first_number_of (tests_for p c) 0
+
+-- the same of what a command came to: 0 where it was obeyed, else the number of its refusal
+abbrev pub number_of : Result (Unit {0}) Refusal → ℕ
+number_of (Ok _) = 0
+number_of (Err NoPair) = 15
+number_of (Err Full) = 16
+number_of (Err IllFormed) = 17
+number_of (Err NotListed) = 18
+number_of (Err NoMode) = 19
 
 -- what a command that is answered 0 makes of the pair: "Add (a PGN already there: answer 0, no change), delete", and Req 07's single command: "named
 -- pair, new mode, empty list"

@@ -1,6 +1,6 @@
 -- Where the pairs stand in the words that the caller lends: 12 rows of 34 words, a row for each pair. A row's words: 0 the mode, 1 how many
 -- PGNs are listed, 2 + k the PGN at place k. Total on any words: any mode but 0 is mode 1, a count above 32 is 32. Assumes nothing.
-use Rattle.std.specs.Prelude.{◌≡◌, Bool, ◌&&◌, cond, List, ℕ, ◌+◌, ◌-◌, ◌/◌, ◌<◌, eqb, ltb, length, get_or, set}
+use Rattle.std.specs.Prelude.{◌≡◌, Bool, ◌&&◌, cond, List, ℕ, ◌+◌, ◌-◌, ◌/◌, ◌<◌, ◌≢◌, Option, MatchOption, eqb, ltb, length, get_or, set}
 use Rattle.words.specs.First.{first}
 use Rattle.words.specs.Rows.{row_at, put_at}
 use Rattle.pairs.specs.declared.Command.{Command}
@@ -21,6 +21,11 @@ entry_in r g = first (λ k. eqb (get_or r (2 + k) 0) g) (count_in r)
 
 abbrev pub listed_in : List ℕ → ℕ → Bool
 listed_in r g = ltb (entry_in r g) (count_in r)
+
+-- what a search for the place found: the lowest, or that there is none
+abbrev pub IsPlace : List ℕ → ℕ → Option ℕ → Type 0
+IsPlace r g o =
+    MatchOption o ((j : ℕ) → j < count_in r → get_or r (2 + j) 0 ≢ g) (λ k. (k < count_in r) × (get_or r (2 + k) 0 ≡ g) × ((j : ℕ) → j < k → get_or r (2 + j) 0 ≢ g))
 
 -- the pair that a row's words mean
 abbrev pub pair_in : List ℕ → Pair

@@ -2,9 +2,9 @@
 // and does, specs/Row.antt where its words stand. Words that no command wrote are answered too: nothing here can trap.
 #![tactic(auto)]
 
-ghost use Rattle.std.specs.Prelude.{◌≡◌, ◌≤◌, ◌<◌, length};
-ghost use Rattle.pairs.specs.Pairs.{ill_formed, passes};
-ghost use Rattle.pairs.specs.Row.{mode_in, count_in, entry_in, noted, row_obeys, obeys_at, passes_at};
+ghost use Rattle.std.specs.Prelude.{◌≡◌, ◌≤◌, length};
+ghost use Rattle.pairs.specs.Pairs.{ill_formed, number_of, passes};
+ghost use Rattle.pairs.specs.Row.{mode_in, count_in, listed_in, IsPlace, noted, row_obeys, obeys_at, passes_at};
 
 // How many pairs there are.
 pub const PAIRS: usize = 12;
@@ -18,12 +18,40 @@ pub const WORDS: usize = 408;
 // How many PGNs a list holds.
 pub const ROOM: usize = 32;
 
+// The words of a pair.
+type Row = [u32; WIDTH];
+
 // What changes a pair.
 #[derive(Clone, Copy)]
 pub enum Command {
     Add(u32),
     Delete(u32),
     Renew(u8),
+}
+
+// Why a command is refused.
+#[derive(Clone, Copy, PartialEq, Eq)]
+pub enum Refusal {
+    NoPair,
+    Full,
+    IllFormed,
+    NotListed,
+    NoMode,
+}
+
+// The number that 01 has for the answer to a command: 0, or that of its refusal.
+// Kept: one function of both, as an answer is a number in the end.
+pub fn number_of(done: Result<(), Refusal>) -> u8
+    ensures { result ≡ number_of done }
+{
+    match done {
+        Ok(()) => 0,
+        Err(Refusal::NoPair) => 15,
+        Err(Refusal::Full) => 16,
+        Err(Refusal::IllFormed) => 17,
+        Err(Refusal::NotListed) => 18,
+        Err(Refusal::NoMode) => 19,
+    }
 }
 
 // Whether a PGN is above 262,143, or has a PF below 240 with a low byte other than 0.
@@ -41,96 +69,96 @@ pub fn passing(mode: u8, listed: bool) -> bool
 }
 
 // A row's mode.
-fn mode_of(row: &[u32]) -> u8
-    requires { length row.now ≡ 34 }
+// Kept: a number, as it stands in the words that C lends and as a command brings it, where any but 0 and 1 is refused.
+fn mode_of(row: &Row) -> u8
     ensures { result ≡ mode_in row.now }
 {
     frame::pick8(row[0] == 0, 0, 1)
 }
 
 // How many PGNs a row lists, at most 32 whatever its words are.
-fn count_of(row: &[u32]) -> usize
-    requires { length row.now ≡ 34 }
+fn count_of(row: &Row) -> usize
     ensures { (result ≡ count_in row.now) × (result ≤ 32) }
 {
-    let n = row[1] as usize;
-    if ROOM < n {
-        return ROOM;
-    }
-    n
+    ROOM.min(row[1] as usize)
 }
 
-// The lowest place at which a row lists the PGN, or how many it lists.
-fn entry_of(row: &[u32], pgn: u32) -> usize
-    requires { length row.now ≡ 34 }
-    ensures { result ≡ entry_in row.now pgn }
+// The lowest place at which a row lists the PGN.
+fn entry_of(row: &Row, pgn: u32) -> Option<usize>
+    ensures { IsPlace row.now pgn result }
 {
-    let n = count_of(row);
-    let mut k = 0;
-    while k < n {
+    for k in 0..count_of(row) {
         if row[2 + k] == pgn {
-            return k;
+            return Some(k);
         }
-        k += 1;
     }
-    n
+    None
+}
+
+// Whether a row lists the PGN.
+// Kept: a loop over all entries, of which the compiler takes several at a time: a decision on a list of 32 takes 108 instructions. With a search that stops at the entry it took 232, and over three times as long.
+fn lists(row: &Row, pgn: u32) -> bool
+    ensures { result ≡ listed_in row.now pgn }
+{
+    let mut found = false;
+    for k in 0..count_of(row) {
+        if row[2 + k] == pgn {
+            found = true;
+        }
+    }
+    found
 }
 
 // Adds a PGN behind the last, where it is not listed yet and there is room.
-fn add_row(row: &mut [u32], pgn: u32) -> u8
-    requires { length row.old ≡ 34 }
-    ensures { noted result row.new ≡ row_obeys row.old (Command.Add pgn) }
+fn add_row(row: &mut Row, pgn: u32) -> Result<(), Refusal>
+    ensures { noted (number_of result) row.new ≡ row_obeys row.old (Command.Add pgn) }
 {
     if ill_formed(pgn) {
-        return 17;
+        return Err(Refusal::IllFormed);
+    }
+    if entry_of(row, pgn).is_some() {
+        return Ok(());
     }
     let n = count_of(row);
-    if entry_of(row, pgn) < n {
-        return 0;
-    }
     if n < ROOM {
         row[2 + n] = pgn;
         row[1] = n as u32 + 1;
-        return 0;
+        return Ok(());
     }
-    16
+    Err(Refusal::Full)
 }
 
 // Deletes a PGN: the last one takes its place.
-fn delete_row(row: &mut [u32], pgn: u32) -> u8
-    requires { length row.old ≡ 34 }
-    ensures { noted result row.new ≡ row_obeys row.old (Command.Delete pgn) }
+fn delete_row(row: &mut Row, pgn: u32) -> Result<(), Refusal>
+    ensures { noted (number_of result) row.new ≡ row_obeys row.old (Command.Delete pgn) }
 {
     if ill_formed(pgn) {
-        return 17;
+        return Err(Refusal::IllFormed);
     }
     let n = count_of(row);
-    let k = entry_of(row, pgn);
-    if k < n {
-        row[2 + k] = row[1 + n];
-        row[1] = n as u32 - 1;
-        return 0;
-    }
-    18
+    let Some(k) = entry_of(row, pgn) else {
+        return Err(Refusal::NotListed);
+    };
+    row[2 + k] = row[1 + n];
+    row[1] = n as u32 - 1;
+    Ok(())
 }
 
 // Sets the mode and empties the list.
-fn renew_row(row: &mut [u32], mode: u8) -> u8
-    requires { length row.old ≡ 34 }
-    ensures { noted result row.new ≡ row_obeys row.old (Command.Renew mode) }
+fn renew_row(row: &mut Row, mode: u8) -> Result<(), Refusal>
+    ensures { noted (number_of result) row.new ≡ row_obeys row.old (Command.Renew mode) }
 {
     if 1 < mode {
-        return 19;
+        return Err(Refusal::NoMode);
     }
     row[0] = mode as u32;
     row[1] = 0;
-    0
+    Ok(())
 }
 
 // Obeys a command in the row of its pair.
-fn obey_row(row: &mut [u32], c: Command) -> u8
-    requires { length row.old ≡ 34 }
-    ensures { noted result row.new ≡ row_obeys row.old c }
+fn obey_row(row: &mut Row, c: Command) -> Result<(), Refusal>
+    ensures { noted (number_of result) row.new ≡ row_obeys row.old c }
 {
     match c {
         Command::Add(pgn) => add_row(row, pgn),
@@ -139,28 +167,35 @@ fn obey_row(row: &mut [u32], c: Command) -> u8
     }
 }
 
-// A command to the pair with this number, whose row is lent while all others stay: the number of the answer, 15 where no row has that number.
-pub fn obey(w: &mut [u32], pair: usize, c: Command) -> u8
-    ensures { noted result w.new ≡ obeys_at w.old pair c }
+// The same in words that are a row; no others are.
+fn obey_in(words: &mut [u32], c: Command) -> Result<(), Refusal>
+    ensures { length words.old ≡ 34 → noted (number_of result) words.new ≡ row_obeys words.old c }
+{
+    match words.first_chunk_mut() {
+        Some(row) => obey_row(row, c),
+        None => Err(Refusal::NoPair),
+    }
+}
+
+// A command to the pair with this number, whose row is lent while all others stay; where no row has that number, there is no pair.
+#[inline(always)]
+pub fn obey(w: &mut [u32], pair: usize, c: Command) -> Result<(), Refusal>
+    ensures { noted (number_of result) w.new ≡ obeys_at w.old pair c }
 {
     if pair < w.len() / WIDTH {
         let a = pair * WIDTH;
-        let e = a + WIDTH;
-        return obey_row(&mut w[a..e], c);
+        return obey_in(&mut w[a..a + WIDTH], c);
     }
-    15
+    Err(Refusal::NoPair)
 }
 
 // Whether the pair with this number lets a PGN pass; where no row has that number, none passes.
 pub fn lets_pass(w: &[u32], pair: usize, pgn: u32) -> bool
     ensures { result ≡ passes_at w.now pair pgn }
 {
-    if pair < w.len() / WIDTH {
-        let a = pair * WIDTH;
-        let e = a + WIDTH;
-        let row = &w[a..e];
-        let n = count_of(row);
-        return passing(mode_of(row), entry_of(row, pgn) < n);
+    let (rows, _) = w.as_chunks::<WIDTH>();
+    match rows.get(pair) {
+        Some(row) => passing(mode_of(row), lists(row, pgn)),
+        None => false,
     }
-    false
 }

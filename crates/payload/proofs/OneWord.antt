@@ -3,14 +3,14 @@ use mathlib.Core.Path.{◌≡◌, refl, sym, ap, ◌∙◌}
 use mathlib.Core.Bool.{Bool, true, false, not, ◌&&◌, ◌||◌, and-eq-true_iff}
 use mathlib.Core.List.{List, ◌++◌}
 use Prim.Native.Nat.{ℕ, zero, suc, ◌+◌, ◌*◌, ◌/◌, ◌%◌, ◌^◌, ◌≤◌, ◌<◌}
+use native.Mathlib.Nat.{div-one}
 use native.Mathlib.Numerals.{add-one}
 use native.Mathlib.Omega.{arith}
 use borrow.Author.Tests.{not-true, not-false, eqb-true, leb-true, ltb-false, eq-eqb, le-ltb}
 use lib.Dec.{eqb, leb, ltb}
 use lib.ListN.{length, get_or, drop}
-use lib.Seq.{ext_get_or}
 use Rattle.words.specs.Lists.{tabulate}
-use Rattle.words.proofs.Lists.{length-tabulate, get_tabulate, tabulate_equal}
+use Rattle.words.proofs.Lists.{tabulate_equal}
 use Rattle.words.proofs.Lowest.{neither, lowest_none, None}
 use Rattle.places.specs.Place.{end_to, bytes_for, size_of, unplaced_in}
 use Rattle.places.proofs.Placed.{Placed, none_unplaced}
@@ -20,7 +20,8 @@ use Rattle.bits.proofs.Number.{lies_in_lem}
 use Rattle.single.specs.Single.{number_of, lies_there, cut_from, all_lie, numbers_of, taking, taken, laid_on}
 use Rattle.single.proofs.Cutting.{there, cut_lies, lies_at, all_taken, cut_is_read}
 use Rattle.single.proofs.Laying.{word-laid}
-use Rattle.payload.specs.declared.Laying.TheVariants.{Done}
+use Rattle.std.specs.Prelude.{Ok}
+use Rattle.std.specs.Int.{w64, to_le_bytes}
 use Rattle.payload.specs.Payload.{bit_after_all, packed, read_all}
 use Rattle.payload.specs.Calls.{left, needs_more, too_wide_in, packing, reading}
 use Rattle.payload.proofs.Turns.{all_lt, read_turn}
@@ -97,7 +98,7 @@ module _ (ss ws vs : List ℕ) where
 
   -- laid into a buffer, that is what packing makes
   pub short-packed : (held bytes : List ℕ) → unplaced_in ss ws ≡ 0 → size_of ss ws ≡ 8 → too_wide_in ws vs ≡ 0 → length vs ≡ length ss → 8 ≤ length held
-      → bytes ≡ packed ss ws vs → left (Done 8) (bytes ++ drop 8 held) ≡ packing ss ws vs held
+      → bytes ≡ packed ss ws vs → left (Ok 8) (bytes ++ drop 8 held) ≡ packing ss ws vs held
   unfolding packing
   short-packed held bytes u z w long room e = simp (u, z, w, eq-eqb _ _ long, le-ltb _ _ room, ← e)
 
@@ -108,11 +109,23 @@ byte_of word k = from_bits (λ i. bit word (8 * k + i)) 8
 pub byte-is : (word k above : ℕ) → above ≡ word / 2 ^ (8 * k) → above % 256 ≡ byte_of word k
 byte-is word k above e = ap (λ (x : ℕ). x % 256) e ∙ sym (from_of (word / 2 ^ (8 * k)) 8) ∙ from-same _ _ 8 (λ i l. bit_shr word (8 * k) i)
 
--- ---- read
+-- its bytes, the lowest first
+pub le_bytes : (word : ℕ) → to_le_bytes w64 word ≡ bytes_with (bit word) 8
+unfolding bytes_with tabulate
+le_bytes word =
+    let b : (k above : ℕ) → above ≡ word / 2 ^ (8 * k) → above % 256 ≡ byte_of word k = byte-is word in
+    rw (
+      b 0 word (sym (div-one word)),
+      b 1 (word / 2 ^ 8) refl,
+      b 2 (word / 2 ^ 16) refl,
+      b 3 (word / 2 ^ 24) refl,
+      b 4 (word / 2 ^ 32) refl,
+      b 5 (word / 2 ^ 40) refl,
+      b 6 (word / 2 ^ 48) refl,
+      b 7 (word / 2 ^ 56) refl,
+    )
 
--- eight bytes are one after another
-pub eight_listed : (d : List ℕ) → length d ≡ 8 → tabulate (λ k. get_or d k 0) 8 ≡ d
-eight_listed d e = ext_get_or 0 _ d (length-tabulate _ 8 ∙ sym e) (λ k l. get_tabulate _ 8 k (omega (arith, rw length-tabulate at l)))
+-- ---- read
 
 -- what was taken says that each has its place, that L is 8, and that there is room
 module _ (ss ws payload held : List ℕ) (word : ℕ) (few : length ss ≤ 64) (long : length payload ≡ 8) (e : word ≡ run_at payload 0 64) (y : taking ss ws (length held) ≡ true) where
@@ -132,6 +145,6 @@ module _ (ss ws payload held : List ℕ) (word : ℕ) (few : length ss ≤ 64) (
       one i l = let p = there (get_or ss i 0) (get_or ws i 0) (lies_at ss ws parts.1 i l) in cut_lies word (get_or ss i 0) (get_or ws i 0) p.1 p.2
 
   -- that is what reading makes
-  pub short_read : left (Done (length ss)) (taken word ss ws held) ≡ reading ss ws payload held
+  pub short_read : left (Ok (length ss)) (taken word ss ws held) ≡ reading ss ws payload held
   unfolding reading
   short_read = simp (short.0, short.1, eq-eqb _ _ long, le-ltb _ _ parts.0, ← numbers_cut, ← all_taken word ss ws held y _ refl)

@@ -61,17 +61,17 @@ module _ (ss ws : List ℕ) (u : unplaced_in ss ws ≡ 0) where
   placed_in i l = omega (arith, placed_at i l, end_le ss ws i (length ss) l, end_in_lem ss ws)
 
 -- the end of a map whose parameters all have a place
-end_all : (ss ws : List ℕ) → unplaced_in ss ws ≡ 0 → end_to ss ws (length ss) ≡ end_placed ss ws
+pub end_all : (ss ws : List ℕ) → unplaced_in ss ws ≡ 0 → end_to ss ws (length ss) ≡ end_placed ss ws
 unfolding end_placed
 end_all ss ws e = rw e
 
 -- what a walk over a map found that stopped at index i, and one that stopped nowhere
-pub walk_stopped : (ss ws : List ℕ) (i : ℕ) → i + 1 ≡ unplaced_in ss ws → (i + 1 ≡ unplaced_in ss ws) × (0 ≡ end_placed ss ws)
+pub walk_stopped : (ss ws : List ℕ) (i : ℕ) → i + 1 ≡ unplaced_in ss ws → (0 < i + 1) × (i + 1 ≡ unplaced_in ss ws) × (end_placed ss ws ≡ 0)
 unfolding end_placed
-walk_stopped ss ws i e = (e, rw (ne_eqb (unplaced_in ss ws) 0 (λ z. omega arith)))
+walk_stopped ss ws i e = (omega arith, e, rw (ne_eqb (unplaced_in ss ws) 0 (λ z. omega arith)))
 
-pub walk-done : (ss ws : List ℕ) (end i : ℕ) → 0 ≡ unplaced_in ss ws → end ≡ end_to ss ws i → i ≡ length ss → (0 ≡ unplaced_in ss ws) × (end ≡ end_placed ss ws)
-walk-done ss ws end i e b n = (e, b ∙ ap (end_to ss ws) n ∙ end_all ss ws (sym e))
+pub walk-done : (ss ws : List ℕ) (end i : ℕ) → 0 ≡ unplaced_in ss ws → end ≡ end_to ss ws i → i ≡ length ss → (unplaced_in ss ws ≡ 0) × (end ≡ end_placed ss ws)
+walk-done ss ws end i e b n = (sym e, b ∙ ap (end_to ss ws) n ∙ end_all ss ws (sym e))
 
 -- L of a map whose parameters all have a place, from that end
 pub size-measured : (ss ws : List ℕ) (end bytes : ℕ) → unplaced_in ss ws ≡ 0 → end ≡ end_placed ss ws → bytes ≡ bytes_for end → bytes ≡ size_of ss ws

@@ -2,10 +2,11 @@
 // judgement"; 02, Req 04). This room knows starts and widths, and no byte and no message. Its slices may have any length and hold anything.
 #![tactic(auto)]
 
-ghost use Rattle.std.specs.Prelude.{◌≡◌, true, false, ◌+◌, ◌*◌, ◌/◌, ◌^◌, ◌<◌, max, get_or};
+ghost use Rattle.std.specs.Prelude.{◌≡◌, true, false, ◌+◌, ◌*◌, ◌/◌, ◌^◌, ◌<◌, IfOk, IfErr};
 ghost use Rattle.places.specs.Place.{odd, skipped, place, end_of, meet, shares_bit, bytes_for, lacks_place, unplaced_in, end_placed};
 
 // Whether a width is above 8 and no multiple of 8: its last, partial byte is filled from the top.
+#[tactic(auto, unfolding(crate::specs::Place::odd))]
 pub fn is_odd(width: u32) -> bool
     ensures { result ≡ odd width }
 {
@@ -13,6 +14,7 @@ pub fn is_odd(width: u32) -> bool
 }
 
 // How many low bits of its last byte a parameter skips.
+#[tactic(auto, unfolding(crate::specs::Place::skipped, crate::specs::Place::odd))]
 pub fn skipped_bits(width: u32) -> u32
     ensures { result ≡ skipped width }
 {
@@ -20,6 +22,7 @@ pub fn skipped_bits(width: u32) -> u32
 }
 
 // The payload bit after the last one of a parameter.
+// Kept: start and width by themselves, here and in the rooms above, and no struct of the two: they stand in two lists, as `open` lays them, and every definition takes them so; a pair would be made only to be taken apart.
 pub fn end_bit(start: u32, width: u32) -> u64
     ensures { result ≡ end_of start width }
 {
@@ -74,64 +77,35 @@ pub fn shares(s1: u32, w1: u32, s2: u32, w2: u32) -> bool
 }
 
 // L, from the largest end of a map's parameters.
+#[tactic(auto, unfolding(crate::specs::Place::bytes_for))]
 pub fn bytes_for(end: u64) -> u64
     ensures { result ≡ bytes_for end }
 {
-    if end <= 64 {
-        return 8;
-    }
-    (end - 1) / 8 + 1
-}
-
-// The number at index i, 0 where it is missing.
-fn number_at(list: &[u32], i: usize) -> u32
-    ensures { result ≡ get_or list.now i 0 }
-{
-    if i < list.len() {
-        return list[i];
-    }
-    0
-}
-
-// The larger of two numbers.
-fn larger(x: u64, y: u64) -> u64
-    ensures { result ≡ max x y }
-{
-    if x < y { y } else { x }
+    end.div_ceil(8).max(8)
 }
 
 // Whether the parameter at index i has no place.
+#[tactic(auto, unfolding(crate::specs::Place::lacks_place))]
 fn lacks_place(i: usize, start: u32, width: u32) -> bool
     ensures { result ≡ lacks_place i start width }
 {
     (64 <= i) | (width < 1) | (32 < width) | (14280 < end_bit(start, width))
 }
 
-// What one walk over a map finds: the lowest position without a place, or 0, and the largest end, or 0 where a position has no place.
-#[derive(Clone, Copy)]
-pub struct Measured {
-    pub unplaced: u8,
-    pub end: u64,
-}
-
-// Measures a map: each parameter is looked at once, for its place and for its end.
-pub fn measure(starts: &[u32], widths: &[u32]) -> Measured
-    ensures { (result.unplaced ≡ unplaced_in starts.now widths.now)
-        × (result.end ≡ end_placed starts.now widths.now) }
+// Measures a map in one walk, in which each parameter is looked at once, for its place and for its end: the largest end, or the lowest position that has no place.
+pub fn measure(starts: &[u32], widths: &[u32]) -> Result<u64, u8>
+    ensures ok { IfOk result (λ end. (unplaced_in starts.now widths.now ≡ 0) × (end ≡ end_placed starts.now widths.now)) }
+    ensures err { IfErr result (λ position. (0 < position) × (position ≡ unplaced_in starts.now widths.now) × (end_placed starts.now widths.now ≡ 0)) }
 {
     let mut end = 0;
-    let mut i = 0;
-    while i < starts.len() {
-        let start = starts[i];
-        let width = number_at(widths, i);
-        if lacks_place(i, start, width) {
-            return Measured {
-                unplaced: (i + 1) as u8,
-                end: 0,
-            };
+    for (i, start) in starts.iter().enumerate() {
+        let Some(width) = widths.get(i) else {
+            return Err((i + 1) as u8); // a missing width is 0, which has no place
+        };
+        if lacks_place(i, *start, *width) {
+            return Err((i + 1) as u8);
         }
-        end = larger(end, end_bit(start, width));
-        i += 1;
+        end = end_bit(*start, *width).max(end);
     }
-    Measured { unplaced: 0, end }
+    Ok(end)
 }

@@ -24,11 +24,15 @@ obeyed_by w f t c long {s} {n} {i} {v} e o p =
     rw (by_number f t, ← e, p)
     (ap (λ (a : Noted). outcome (plain a.number) a.row) (rw long at o) ∙ test (ltb i 12) (λ y. rw y) (λ m. rw m))
 
+pub no_pair : (w : List ℕ) (f t : ℕ) (c : Command) {s : Said} → 12 ≡ pair_of f t → s ≡ plain 15 → outcome s w ≡ commanded w f t c
+unfolding commanded
+no_pair w f t c e p = rw (by_number f t, ← e, p)
+
 -- the deciding call
 module _ (w : List ℕ) (f t id : ℕ) {s : Said} {i : ℕ} (e : i ≡ pair_of f t) where
-  pub undecided : 12 ≤ i → s ≡ plain 15 → s ≡ decided w f t id
+  pub undecided : i ≡ 12 → s ≡ plain 15 → s ≡ decided w f t id
   unfolding decided
-  undecided h p = rw (by_number f t, ← e, le-ltb i 12 h) p
+  undecided h p = rw (by_number f t, ← e, h) p
 
   pub too_long : i < 12 → greatest_identifier < id → s ≡ plain 1 → s ≡ decided w f t id
   unfolding decided decided_by

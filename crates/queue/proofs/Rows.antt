@@ -3,40 +3,33 @@ use mathlib.Core.Path.{◌≡◌, sym, ap, ◌∙◌}
 use mathlib.Core.Bool.{Bool, false, cond}
 use mathlib.Core.Option.{none, some}
 use mathlib.Core.List.{List, [], ◌∷◌, ◌++◌}
-use Prim.Native.Nat.{ℕ, ◌+◌, ◌*◌, ◌-◌, ◌/◌, ◌≤◌, ◌<◌}
+use Prim.Native.Nat.{ℕ, ◌+◌, ◌*◌, ◌/◌, ◌≤◌, ◌<◌}
 use native.Mathlib.Omega.{arith}
 use borrow.Author.Tests.{lt-ltb, le-ltb}
 use lib.Dec.{ltb}
 use lib.ListN.{length, take, drop}
 use Rattle.words.specs.Rows.{row_at, put_at}
-use Rattle.words.proofs.Rows.{part_is-row, back_is-put, length-row_at, length-put_at, row_at-put_at, row_at-put_at-other, put_at-same}
-use Rattle.queue.specs.declared.Left.{Left}
+use Rattle.words.proofs.Rows.{length-row_at, length-put_at, row_at-put_at, row_at-put_at-other, put_at-same}
+use Rattle.std.specs.Prelude.{Option}
 use Rattle.queue.specs.Queue.{leaver, stayers}
 use Rattle.queue.specs.Row.{priority_in, waiting_in, how_many, Entered, entered, row_enters, enters_at, Gone, gone, left_with, row_leaves, leaves_at, waiting_at}
 use Rattle.queue.proofs.Words.{count_most, waiting-long, full_stays, enters_long, enters_waits, enters_fits, leaves_long, leaves_waits, leaves_who}
 
--- ---- row i is lent as a part, and comes back
+-- ---- row i is lent, behind the rows before it, and comes back
 
 module _ (q : List ℕ) (i : ℕ) where
-  abbrev part : List ℕ
-  part = take (i * 65 + 65 - i * 65) (drop (i * 65) q)
+  module _ {front rest row : List ℕ} (h : i < length q / 65) (e : front ≡ take (i * 65) q) (f : rest ≡ drop (i * 65) q) (g : row ≡ take 65 rest) where
+    pub lent_enters : (w : ℕ) {b : Bool} {r : List ℕ} → entered b r ≡ row_enters row w → entered b (front ++ (r ++ drop 65 rest)) ≡ enters_at q i w
+    unfolding enters_at row_at put_at
+    lent_enters w {b} {r} o = rw (e, f, lt-ltb i (length q / 65) h) (ap (λ (x : Entered). entered x.fits (put_at 65 q i x.words)) (rw (g, f) at o))
 
-  abbrev back : List ℕ → List ℕ
-  back r = take (i * 65) q ++ (r ++ drop (i * 65 + 65 - i * 65) (drop (i * 65) q))
+    pub lent_leaves : (l : Option ℕ) {r : List ℕ} → left_with l r ≡ row_leaves row → left_with l (front ++ (r ++ drop 65 rest)) ≡ leaves_at q i
+    unfolding leaves_at row_at put_at
+    lent_leaves l {r} o = rw (e, f, lt-ltb i (length q / 65) h) (ap (λ (x : Gone). gone x.any x.word (put_at 65 q i x.words)) (rw (g, f) at o))
 
-  pub lent_enters : (w : ℕ) {b : Bool} {r : List ℕ} → i < length q / 65 → entered b r ≡ row_enters part w → entered b (back r) ≡ enters_at q i w
-  unfolding enters_at
-  lent_enters w {b} {r} h o =
-      rw (back_is-put 65 q i r, lt-ltb i (length q / 65) h) (ap (λ (x : Entered). entered x.fits (put_at 65 q i x.words)) (rw (part_is-row 65 q i) at o))
-
-  pub lent_leaves : {l : Left} {r : List ℕ} → i < length q / 65 → left_with l r ≡ row_leaves part → left_with l (back r) ≡ leaves_at q i
-  unfolding leaves_at
-  lent_leaves {l} {r} h o =
-      rw (back_is-put 65 q i r, lt-ltb i (length q / 65) h) (ap (λ (x : Gone). gone x.any x.word (put_at 65 q i x.words)) (rw (part_is-row 65 q i) at o))
-
-  pub lent-waiting : (f : ℕ) {n : ℕ} → i < length q / 65 → n ≡ how_many f (waiting_in part) → n ≡ how_many f (waiting_at q i)
-  unfolding waiting_at
-  lent-waiting f h o = rw (lt-ltb i (length q / 65) h) (rw (part_is-row 65 q i) at o)
+    pub lent-waiting : (k : ℕ) {n : ℕ} → n ≡ how_many k (waiting_in row) → n ≡ how_many k (waiting_at q i)
+    unfolding waiting_at row_at
+    lent-waiting k o = rw (lt-ltb i (length q / 65) h) (rw (g, f) at o)
 
   -- no row has that number
   module _ (h : length q / 65 ≤ i) where

@@ -1,6 +1,6 @@
 -- One scan over a queue, from the front, that keeps the best place so far and its number: what it knows at each turn. Assumes nothing.
-use mathlib.Core.Path.{◌≡◌, refl}
-use mathlib.Core.Bool.{Bool, cond}
+use mathlib.Core.Path.{◌≡◌, refl, sym, ap, ◌∙◌}
+use mathlib.Core.Bool.{cond}
 use mathlib.Core.List.{List, [], ◌∷◌}
 use Prim.Native.Nat.{ℕ, suc, ◌+◌, ◌≤◌, ◌<◌, min}
 use native.Mathlib.Nat.{zero-add}
@@ -8,9 +8,9 @@ use native.Mathlib.Omega.{arith}
 use native.Mathlib.Decide.{dec_lt}
 use borrow.Author.Tests.{le-leb, lt-leb, lt-ltb, le-ltb}
 use lib.Dec.{leb, ltb}
-use lib.ListN.{length}
-use Rattle.words.specs.Runs.{only}
-use Rattle.words.proofs.Tests.{test}
+use native.Mathlib.Numerals.{add-one}
+use lib.ListN.{length, get_or, drop}
+use lib.Seq.{drop-cons}
 use Rattle.queue.specs.Queue.{least, place}
 
 module _ {A : Type 0} (priority : A → ℕ) where
@@ -49,7 +49,14 @@ module _ {A : Type 0} (priority : A → ℕ) where
       go (no a) (no b) c =
           rw (le-ltb (priority x) low (omega arith), le-leb low (least priority l) (omega arith), le-leb low (min (priority x) (least priority l)) (omega arith))
 
--- ---- how many pass a test, counted from the front
+  -- its number is lower than any so far, or it is not
+  pub lower_turn : (best low k : ℕ) (x : A) (l : List A) → priority x < low → found k (priority x) (k + 1) l ≡ found best low k (x ∷ l)
+  lower_turn best low k x l h = rw (lt-ltb (priority x) low h) at (one_more best low k x l)
 
-pub counted-one : (p : ℕ → Bool) (x : ℕ) (l : List ℕ) → length (only p (x ∷ l)) ≡ cond (p x) 1 0 + length (only p l)
-counted-one p x l = test (p x) (λ y. rw y (omega arith)) (λ n. rw n (omega arith))
+  pub other_turn : (best low k : ℕ) (x : A) (l : List A) → low ≤ priority x → found best low (k + 1) l ≡ found best low k (x ∷ l)
+  other_turn best low k x l h = rw (le-ltb (priority x) low h) at (one_more best low k x l)
+
+-- ---- a list from place k on
+
+pub from_place : {A : Type 0} (l : List A) (k : ℕ) (d : A) → k < length l → drop k l ≡ get_or l k d ∷ drop (k + 1) l
+from_place l k d h = drop-cons l k d h ∙ ap (λ (i : ℕ). get_or l k d ∷ drop i l) (sym (add-one k))

@@ -3,18 +3,17 @@ use mathlib.Core.Path.{◌≡◌, sym, ap, ap₂, ◌∙◌}
 use mathlib.Core.Bool.{true, false, cond}
 use mathlib.Core.Option.{none, some}
 use mathlib.Core.List.{List, [], ◌∷◌, ◌++◌}
-use Prim.Native.Nat.{ℕ, zero, suc, ◌+◌, ◌-◌, ◌≤◌, ◌<◌}
+use Prim.Native.Nat.{ℕ, zero, suc, ◌+◌, ◌-◌, ◌≤◌, ◌<◌, min}
 use native.Mathlib.Numerals.{add-one}
 use native.Mathlib.Omega.{arith}
 use native.Mathlib.Decide.{ℕ_discrete}
 use borrow.Author.Tests.{lt-ltb, le-ltb, ltb-true, ltb-false, eq-eqb, ne_eqb}
-use lib.Dec.{eqb, ltb}
-use lib.ListN.{length, get_or, set, take, drop, length-append, length-drop, length-set, drop_of_length-le}
-use lib.Seq.{take-nil, drop-cons, take_at, take-take, get_or-take, get_or-drop, get_or-set_same, take-suc-set, drop-set-lt, drop-set-add, paste, paste-zero, paste-suc, length-paste, drop-paste, length-take-le}
+use lib.Dec.{ltb}
+use lib.ListN.{length, get_or, set, take, drop, length-append, length-drop, length-set}
+use lib.Seq.{take-nil, take_at, take-take, get_or-take, get_or-drop, get_or-set_same, take-suc-set, drop-set-lt, drop-set-add, paste, length-paste, length-take-le}
 use Rattle.words.proofs.Tests.{test, never}
 use Rattle.queue.specs.Queue.{place, leaver, stayers}
-use Rattle.queue.specs.Row.{from_in, priority_in, count_in, waiting_in, how_many, entered, row_enters, closed_up, gone, row_leaves}
-use Rattle.queue.proofs.Scan.{found, at_end, one_more, counted-one}
+use Rattle.queue.specs.Row.{priority_in, count_in, waiting_in, entered, row_enters, closed_up, gone, row_leaves}
 use Rattle.queue.proofs.Leaving.{none_leaves, none_stays, place-below, leaver-at, stayers-at}
 
 -- ---- a frame's word
@@ -22,23 +21,26 @@ use Rattle.queue.proofs.Leaving.{none_leaves, none_stays, place-below, leaver-at
 pub number_few : (w : ℕ) → priority_in w < 8
 number_few w = omega arith
 
--- the lower of two numbers, by the test of the scan
-pub low_most : (p low r : ℕ) → p ≤ 8 → low ≤ 8 → r ≡ cond (ltb p low) p low → r ≤ 8
-low_most p low r h l e = rw e (test (ltb p low) (λ y. rw y h) (λ n. rw n l))
-
--- one or none
-pub at_most_one : (x y r : ℕ) → r ≡ cond (eqb x y) 1 0 → r ≤ 1
-at_most_one x y r e = rw e (test (eqb x y) (λ z. rw z (omega arith)) (λ n. rw n (omega arith)))
-
 -- ---- the count and the frames
 
 pub count_most : (r : List ℕ) → count_in r ≤ 64
 unfolding count_in
 count_most r = test (ltb 64 (get_or r 0 0)) (λ e. rw e (omega arith)) (λ e. rw e (ltb-false 64 (get_or r 0 0) e))
 
+-- as the code takes it
+pub count-min : (r : List ℕ) → min 64 (get_or r 0 0) ≡ count_in r
+unfolding count_in
+count-min r =
+    test (ltb 64 (get_or r 0 0)) (λ e. rw e (omega (arith, ltb-true 64 (get_or r 0 0) e))) (λ e. rw e (omega (arith, ltb-false 64 (get_or r 0 0) e)))
+
 pub count-is : (r : List ℕ) (n : ℕ) → get_or r 0 0 ≡ n → n ≤ 64 → count_in r ≡ n
 unfolding count_in
 count-is r n e h = rw (e, le-ltb 64 n h)
+
+-- the part that is lent
+pub part_waits : (r : List ℕ) (n : ℕ) → n ≡ count_in r → take (1 + n - 1) (drop 1 r) ≡ waiting_in r
+unfolding waiting_in
+part_waits r n e = let f : 1 + n - 1 ≡ count_in r = omega (arith, e) in rw f
 
 pub none_waits : (r : List ℕ) → count_in r ≡ 0 → waiting_in r ≡ []
 unfolding waiting_in
@@ -52,35 +54,6 @@ module _ (r : List ℕ) (long : length r ≡ 65) where
   pub waiting_get : (k : ℕ) → k < count_in r → get_or (waiting_in r) k 0 ≡ get_or r (1 + k) 0
   unfolding waiting_in
   waiting_get k h = get_or-take (count_in r) (drop 1 r) k 0 h ∙ get_or-drop 1 r k 0
-
-  -- from place k on: the frame there, and those behind it
-  pub waiting-from : (k : ℕ) → k < count_in r → drop k (waiting_in r) ≡ get_or r (1 + k) 0 ∷ drop (k + 1) (waiting_in r)
-  waiting-from k h =
-      drop-cons (waiting_in r) k 0 (rw waiting-long h) ∙ ap₂ (λ (x : ℕ) (i : ℕ). x ∷ drop i (waiting_in r)) (waiting_get k h) (sym (add-one k))
-
-  pub waiting_end : (k : ℕ) → count_in r ≤ k → drop k (waiting_in r) ≡ []
-  waiting_end k h = drop_of_length-le (waiting_in r) {i = k} (rw waiting-long h)
-
-  -- ---- the scan for the place
-
-  pub scan_turn : (best low k p best' low' x : ℕ) → k < count_in r → p ≡ priority_in (get_or r (1 + k) 0) → best' ≡ cond (ltb p low) k best → low' ≡ cond (ltb p low) p low
-      → found priority_in best low k (drop k (waiting_in r)) ≡ x → found priority_in best' low' (k + 1) (drop (k + 1) (waiting_in r)) ≡ x
-  scan_turn best low k p best' low' x h e b l i =
-      rw (b, l, e) (one_more priority_in best low k (get_or r (1 + k) 0) (drop (k + 1) (waiting_in r)) ∙ ap (found priority_in best low k) (sym (waiting-from k h)) ∙ i)
-
-  pub scan_end : (best low k x : ℕ) → low ≤ 8 → count_in r ≤ k → found priority_in best low k (drop k (waiting_in r)) ≡ x → best ≡ x
-  scan_end best low k x h l i = sym (at_end priority_in best low k h) ∙ ap (found priority_in best low k) (sym (waiting_end k l)) ∙ i
-
-  -- ---- those that came from a port, counted from the front
-
-  pub count_turn : (f count more k x : ℕ) → k < count_in r → more ≡ cond (eqb (from_in (get_or r (1 + k) 0)) f) 1 0 → count + how_many f (drop k (waiting_in r)) ≡ x
-      → count + more + how_many f (drop (k + 1) (waiting_in r)) ≡ x
-  count_turn f count more k x h e i =
-      let m = counted-one (λ w. eqb (from_in w) f) (get_or r (1 + k) 0) (drop (k + 1) (waiting_in r)) in
-      omega (arith, e, m, ap (how_many f) (waiting-from k h), i)
-
-  pub count_end : (f count k x : ℕ) → count_in r ≤ k → count + how_many f (drop k (waiting_in r)) ≡ x → count ≡ x
-  count_end f count k x l i = omega (arith, ap (how_many f) (waiting_end k l), i)
 
   -- ---- entering
 
@@ -116,41 +89,10 @@ drop-take (suc a) zero t = let e : zero ≡ zero - suc a = omega arith in ap (λ
 drop-take (suc a) (suc n) [] = sym (take-nil (suc n - suc a))
 drop-take (suc a) (suc n) (x ∷ t) = let e : n - a ≡ suc n - suc a = omega arith in drop-take a n t ∙ ap (λ (k : ℕ). take k (drop a t)) e
 
--- the loop that closes up: m words have moved
-module _ (r : List ℕ) (k : ℕ) where
-  abbrev pub moved : ℕ → List ℕ
-  moved m = paste r (k + 1) (drop (k + 2) r) m
-
-  pub none_moved : (m : ℕ) → m ≡ 0 → r ≡ moved m
-  none_moved m e = rw e (paste-zero r (k + 1) (drop (k + 2) r))
-
-  module _ (m : ℕ) (h : k + 2 + m < length r) where
-    rest_long : m < length (drop (k + 2) r)
-    rest_long = omega (arith, length-drop (k + 2) r)
-
-    -- the word behind those that have moved is as it was
-    next_word_lem : get_or (moved m) (k + 2 + m) 0 ≡ get_or (drop (k + 2) r) m 0
-    next_word_lem =
-        let e : k + 2 + m ≡ k + 1 + m + 1 = omega arith in
-        ap (λ (j : ℕ). get_or (moved m) j 0) e
-        ∙ sym (get_or-drop (k + 1 + m) (moved m) 1 0)
-        ∙ ap (λ (l : List ℕ). get_or l 1 0) (drop-paste r (k + 1) (drop (k + 2) r) m (omega arith) (omega (arith, rest_long)))
-        ∙ get_or-drop (k + 1 + m) r 1 0
-        ∙ ap (λ (j : ℕ). get_or r j 0) (sym e)
-        ∙ sym (get_or-drop (k + 2) r m 0)
-
-    -- one word more
-    pub one_moved : (j : ℕ) → j ≡ k + 1 + m → (n : ℕ) → n ≡ suc m → set (moved m) j (get_or (moved m) (j + 1) 0) ≡ moved n
-    one_moved j e n g =
-        let f : j + 1 ≡ k + 2 + m = omega (arith, e) in
-        ap₂ (λ (i : ℕ) (v : ℕ). set (moved m) i v) e (ap (λ (i : ℕ). get_or (moved m) i 0) f ∙ next_word_lem)
-        ∙ paste-suc r (k + 1) (drop (k + 2) r) m 0 (omega arith) rest_long
-        ∙ ap moved (sym g)
-
-  -- all of them: the row has closed up
-  pub all_moved : (n j : ℕ) (row : List ℕ) → n ≡ count_in r → j ≡ n → row ≡ moved (j - (k + 1)) → set row 0 (n - 1) ≡ closed_up r k
-  unfolding closed_up
-  all_moved n j row e f g = rw (g, f, e)
+-- the words behind place k move up by one
+pub all_moved : (r : List ℕ) (k n : ℕ) (after : List ℕ) → n ≡ count_in r → after ≡ paste r (k + 1) (drop (k + 2) r) (n + 1 - (k + 2)) → set after 0 (n - 1) ≡ closed_up r k
+unfolding closed_up
+all_moved r k n after e p = let f : n + 1 - (k + 2) ≡ count_in r - (k + 1) = omega (arith, e) in rw (p, f, e)
 
 -- the frames of a row that has closed up
 closed_tail : (c : ℕ) (t : List ℕ) (k m a b : ℕ) → a ≡ suc k → b ≡ suc (suc k) → suc k + m ≤ length t
@@ -201,17 +143,15 @@ module _ (r : List ℕ) (long : length r ≡ 65) where
   pub at-below : 0 < count_in r → at < count_in r
   at-below h = rw (waiting-long r long) at (place-below priority_in number_few (waiting_in r) (rw (waiting-long r long) h))
 
-  pub nobody : (n : ℕ) → n ≡ count_in r → n ≡ 0 → gone false 0 r ≡ row_leaves r
+  pub nobody : count_in r ≡ 0 → gone false 0 r ≡ row_leaves r
   unfolding row_leaves
-  nobody n e z = rw (← e, eq-eqb n 0 z)
+  nobody z = rw (eq-eqb (count_in r) 0 z)
 
-  -- the place that was found is below the count
-  pub found_below : (n k : ℕ) → n ≡ count_in r → (n ≡ 0 → ⊥) → k ≡ at → k < n
-  found_below n k e ne f = omega (arith, e, f, at-below (omega (arith, e, ne)))
-
-  pub somebody : (n k : ℕ) (after : List ℕ) → n ≡ count_in r → (n ≡ 0 → ⊥) → k ≡ at → after ≡ closed_up r k → gone true (get_or r (1 + k) 0) after ≡ row_leaves r
+  pub somebody : (k : ℕ) (after : List ℕ) → k < count_in r → k ≡ at → after ≡ closed_up r k → gone true (get_or r (1 + k) 0) after ≡ row_leaves r
   unfolding row_leaves
-  somebody n k after e ne f g = rw (g, f, ← e, ne_eqb n 0 ne)
+  somebody k after b f g =
+      let ne : count_in r ≡ 0 → ⊥ = λ z. omega (arith, b, z) in
+      rw (g, f, ne_eqb (count_in r) 0 ne)
 
   -- a row is as long afterwards, whoever enters or leaves
   pub enters_long : (w : ℕ) → length (row_enters r w).words ≡ 65

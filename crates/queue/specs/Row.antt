@@ -1,11 +1,10 @@
 -- Where the queues stand in the words that the caller lends: 65 words for each port, first how many frames wait, then a word for each in the order in which they came.
 -- Total on any words: a count above 64 is 64. Assumes nothing.
-use Rattle.std.specs.Prelude.{Bool, true, false, cond, List, [], ℕ, ◌+◌, ◌*◌, ◌-◌, ◌/◌, ◌%◌, ◌^◌, eqb, ltb, length, get_or, set, take, drop}
+use Rattle.std.specs.Prelude.{Bool, true, false, cond, List, [], ℕ, ◌+◌, ◌*◌, ◌-◌, ◌/◌, ◌%◌, ◌^◌, eqb, ltb, length, get_or, set, take, drop, Option, is_some, unwrap_or}
 use Rattle.std.proofs.Math.Seq.{paste}
 use Rattle.words.specs.Rows.{row_at, put_at}
 use Rattle.words.specs.Runs.{only}
 use Rattle.frame.specs.Frame.{bits}
-use Rattle.queue.specs.declared.Left.{Left}
 use Rattle.queue.specs.Queue.{most, place}
 
 -- ---- a frame as a word
@@ -62,8 +61,8 @@ pub record Gone : Type 0 where
 abbrev pub gone : Bool → ℕ → List ℕ → Gone
 gone b w r = record { any = b; word = w; words = r }
 
-abbrev pub left_with : Left → List ℕ → Gone
-left_with l r = gone l.any l.word r
+abbrev pub left_with : Option ℕ → List ℕ → Gone
+left_with l r = gone (is_some l) (unwrap_or l 0) r
 
 -- the earliest of the highest priority leaves, where one waits; else the row stays
 unfoldable pub row_leaves : List ℕ → Gone

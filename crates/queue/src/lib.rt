@@ -3,7 +3,7 @@
 // is read as 64, and no index goes by any other word.
 #![tactic(auto)]
 
-ghost use Rattle.std.specs.Prelude.{◌≡◌, cond, ◌≤◌, ◌<◌, length};
+ghost use Rattle.std.specs.Prelude.{◌≡◌, ◌≤◌, ◌<◌, length, MatchOption};
 ghost use Rattle.queue.specs.Queue.{place};
 ghost use Rattle.queue.specs.Row.{word_of, from_in, id_in, priority_in, count_in, waiting_in, how_many, closed_up, entered, row_enters, enters_at, left_with, row_leaves, leaves_at, waiting_at};
 
@@ -16,16 +16,13 @@ pub const WIDTH: usize = 65;
 // Above every priority number.
 const NONE_YET: usize = 8;
 
-// What leaves a port: whether a frame waited there, and its word, 0 where none did.
-#[derive(Clone, Copy)]
-pub struct Left {
-    pub any: bool,
-    pub word: u64,
-}
+// The words of one port.
+type Row = [u64; WIDTH];
 
 // ---- a frame as a word
 
 // The port that a frame came from, and its identifier, as one word.
+// Kept: a word made of two numbers, here and back, since C lends the words.
 pub fn word_of(from: u8, id: u32) -> u64
     ensures { result ≡ word_of from id }
 {
@@ -53,30 +50,59 @@ fn priority_in(word: u64) -> usize
     (word / 67108864 % 8) as usize
 }
 
-// One of two numbers, by a test.
-fn pick(b: bool, x: usize, y: usize) -> usize
-    ensures { result ≡ cond b x y }
+// ---- frames that wait, the earliest first
+
+// The place of the one that leaves next, where there is one: the earliest of the highest priority.
+fn place_of(frames: &[u64]) -> Option<usize>
+    ensures { MatchOption result (length frames.now ≡ 0) (λ k. (k < length frames.now) × (k ≡ place priority_in frames.now)) }
 {
-    if b { x } else { y }
+    if frames.is_empty() {
+        return None;
+    }
+    let mut best = 0;
+    let mut low = NONE_YET;
+    for (k, word) in frames.iter().enumerate() {
+        let p = priority_in(*word);
+        if p < low {
+            best = k;
+            low = p;
+        }
+    }
+    Some(best)
+}
+
+// How many of them came from a port.
+// Kept: a loop, of which the compiler takes several words at a time. `filter(..).count()` over 64 frames takes more than twice as long.
+fn count_from(frames: &[u64], from: u8) -> usize
+    ensures { result ≡ how_many from frames.now }
+{
+    let mut count = 0;
+    for word in frames {
+        if from_in(*word) == from {
+            count += 1;
+        }
+    }
+    count
 }
 
 // ---- the words of a port
 
 // How many frames wait, at most 64 whatever the words are.
-fn count_of(row: &[u64]) -> usize
-    requires { length row.now ≡ 65 }
+fn count_of(row: &Row) -> usize
     ensures { (result ≡ count_in row.now) × (result ≤ 64) }
 {
-    let n = row[0] as usize;
-    if ROOM < n {
-        return ROOM;
-    }
-    n
+    ROOM.min(row[0] as usize)
+}
+
+// The frames that wait, the earliest first.
+fn waiting(row: &Row) -> &[u64]
+    ensures { (result.now ≡ waiting_in row.now) × (length result.now ≤ 64) }
+{
+    &row[1..1 + count_of(row)]
 }
 
 // A frame enters behind the last, where fewer than 64 wait.
-fn enter_row(row: &mut [u64], word: u64) -> bool
-    requires { length row.old ≡ 65 }
+fn enter_row(row: &mut Row, word: u64) -> bool
     ensures { entered result row.new ≡ row_enters row.old word }
 {
     let n = count_of(row);
@@ -88,68 +114,24 @@ fn enter_row(row: &mut [u64], word: u64) -> bool
     false
 }
 
-// The place of the frame that leaves next: the earliest of the highest priority.
-fn place_of(row: &[u64]) -> usize
-    requires { length row.now ≡ 65 }
-    ensures { result ≡ place priority_in (waiting_in row.now) }
-{
-    let n = count_of(row);
-    let mut best = 0;
-    let mut low = NONE_YET;
-    let mut k = 0;
-    while k < n {
-        let p = priority_in(row[1 + k]);
-        best = pick(p < low, k, best);
-        low = pick(p < low, p, low);
-        k += 1;
-    }
-    best
-}
-
-// The frame at place k of n leaves: those behind it move up by one place.
-fn close_up(row: &mut [u64], n: usize, k: usize)
-    requires { (length row.old ≡ 65) × ((n ≡ count_in row.old) × ((n ≤ 64) × (k < n))) }
+// The frame at place k leaves: those behind it move up by one place.
+fn close_up(row: &mut Row, k: usize)
+    requires { k < count_in row.old }
     ensures { row.new ≡ closed_up row.old k }
 {
-    let mut j = k + 1;
-    while j < n {
-        row[j] = row[j + 1];
-        j += 1;
-    }
+    let n = count_of(row);
+    row.copy_within(k + 2..n + 1, k + 1);
     row[0] = n as u64 - 1;
 }
 
 // The frame that is next leaves, where one waits.
-fn leave_row(row: &mut [u64]) -> Left
-    requires { length row.old ≡ 65 }
+fn leave_row(row: &mut Row) -> Option<u64>
     ensures { left_with result row.new ≡ row_leaves row.old }
 {
-    let n = count_of(row);
-    if n == 0 {
-        return Left {
-            any: false,
-            word: 0,
-        };
-    }
-    let k = place_of(row);
+    let k = place_of(waiting(row))?;
     let word = row[1 + k];
-    close_up(row, n, k);
-    Left { any: true, word }
-}
-
-// How many of the waiting frames came from a port.
-fn count_from(row: &[u64], from: u8) -> usize
-    requires { length row.now ≡ 65 }
-    ensures { result ≡ how_many from (waiting_in row.now) }
-{
-    let n = count_of(row);
-    let mut count = 0;
-    let mut k = 0;
-    while k < n {
-        count += pick(from_in(row[1 + k]) == from, 1, 0);
-        k += 1;
-    }
-    count
+    close_up(row, k);
+    Some(word)
 }
 
 // ---- the ports, by the numbers of their rows
@@ -159,26 +141,25 @@ pub fn enter(q: &mut [u64], port: usize, word: u64) -> bool
     ensures { entered result q.new ≡ enters_at q.old port word }
 {
     if port < q.len() / WIDTH {
-        let a = port * WIDTH;
-        let e = a + WIDTH;
-        return enter_row(&mut q[a..e], word);
+        let (_, rest) = q.split_at_mut(port * WIDTH);
+        if let Some(row) = rest.first_chunk_mut() {
+            return enter_row(row, word);
+        }
     }
     false
 }
 
 // The frame that is next leaves the queue with this number; none does where none waits, or no queue has that number.
-pub fn leave(q: &mut [u64], port: usize) -> Left
+pub fn leave(q: &mut [u64], port: usize) -> Option<u64>
     ensures { left_with result q.new ≡ leaves_at q.old port }
 {
     if port < q.len() / WIDTH {
-        let a = port * WIDTH;
-        let e = a + WIDTH;
-        return leave_row(&mut q[a..e]);
+        let (_, rest) = q.split_at_mut(port * WIDTH);
+        if let Some(row) = rest.first_chunk_mut() {
+            return leave_row(row);
+        }
     }
-    Left {
-        any: false,
-        word: 0,
-    }
+    None
 }
 
 // How many of those that wait in the queue with this number came from a port; 0 where no queue has it.
@@ -186,9 +167,10 @@ pub fn waiting_from(q: &[u64], port: usize, from: u8) -> usize
     ensures { result ≡ how_many from (waiting_at q.now port) }
 {
     if port < q.len() / WIDTH {
-        let a = port * WIDTH;
-        let e = a + WIDTH;
-        return count_from(&q[a..e], from);
+        let (_, rest) = q.split_at(port * WIDTH);
+        if let Some(row) = rest.first_chunk() {
+            return count_from(waiting(row), from);
+        }
     }
     0
 }

@@ -53,29 +53,38 @@ fn nap<R: Clock>(rt: &R) {
     thread::sleep(rt, Duration::from_millis(10));
 }
 
-// Whether to read again, just after a read that failed; where not, a line on standard error says `what` and why. Standard input that another process has made
+// How the input goes on: more of it may follow, it has ended, or a read failed for good, which ends it too.
+#[derive(Clone, Copy, PartialEq, Eq)]
+pub enum Flow {
+    More,
+    Ended,
+    Failed,
+}
+
+// How it goes on just after a read that failed; where for good, a line on standard error says `what` and why. Standard input that another process has made
 // non-blocking says WouldBlock while it has nothing yet.
-fn again<R: Clock + Eprint>(rt: &R, what: &[u8], why: Error) -> bool {
-    let kind = why.kind();
-    if kind == ErrorKind::WouldBlock {
-        nap(rt);
-        return true;
+fn after<R: Clock + Eprint>(rt: &R, what: &[u8], why: Error) -> Flow {
+    match why.kind() {
+        ErrorKind::WouldBlock => {
+            nap(rt);
+            Flow::More
+        }
+        ErrorKind::Interrupted => Flow::More,
+        _ => {
+            tell(rt, what, why);
+            Flow::Failed
+        }
     }
-    if kind == ErrorKind::Interrupted {
-        return true;
-    }
-    tell(rt, what, why);
-    false
 }
 
 // ---- into a buffer
 
-// What reading has come to: so many bytes at the start of a buffer, whether more may follow, and whether no read has failed.
+// What reading has come to: so many bytes at the start of a buffer, and how the input goes on.
+// Kept: a number of bytes and no slice: the buffer is the caller's, who lends it on, and there is no heap here for a Vec.
 #[derive(Clone, Copy)]
 pub struct Chunk {
     pub n: usize,
-    pub more: bool,
-    pub whole: bool,
+    pub flow: Flow,
 }
 
 // Reads once, over the start of a buffer. A read that fails for good ends the input there.
@@ -83,19 +92,18 @@ fn once<R: Input + Clock + Eprint>(rt: &R, buffer: &mut [u8], what: &[u8]) -> Ch
     ensures { IsPrefixLen result.n buffer.new }
 {
     match rt.reader().read(buffer) {
+        Ok(0) => Chunk {
+            n: 0,
+            flow: Flow::Ended,
+        },
         Ok(n) => Chunk {
             n,
-            more: 0 < n,
-            whole: true,
+            flow: Flow::More,
         },
-        Err(why) => {
-            let more = again(rt, what, why);
-            Chunk {
-                n: 0,
-                more,
-                whole: more,
-            }
-        }
+        Err(why) => Chunk {
+            n: 0,
+            flow: after(rt, what, why),
+        },
     }
 }
 
@@ -105,28 +113,26 @@ pub fn fill<R: Input + Clock + Eprint>(rt: &R, buffer: &mut [u8], what: &[u8]) -
     ensures { IsPrefixLen result.n buffer.new }
 {
     let mut n = 0;
-    let mut more = true;
-    let mut whole = true;
+    let mut flow = Flow::More;
+    // Kept: an input has no length that is known before, so no loop over it ends by itself. The loops that read on, here and in the programs, count turns in the same way.
     for _ in 0..u64::MAX {
-        if !more || buffer.len() <= n {
+        if flow != Flow::More || buffer.len() <= n {
             break;
         }
         let chunk = once(rt, &mut buffer[n..], what);
         n += chunk.n;
-        more = chunk.more;
-        whole = chunk.whole;
+        flow = chunk.flow;
     }
-    Chunk { n, more, whole }
+    Chunk { n, flow }
 }
 
 // ---- a log
 
-// A log that is read, up to here: its tally, whether more may follow, and whether no read has failed.
+// A log that is read, up to here: its tally, and how it goes on.
 #[derive(Clone, Copy)]
 pub struct Taken {
     pub tally: Tally,
-    pub more: bool,
-    pub whole: bool,
+    pub flow: Flow,
 }
 
 // Feeds the next 64 KB to a table.
@@ -139,8 +145,7 @@ fn feed_on<R: Input + Clock + Eprint>(rt: &R, t: &mut Table, tally: Tally, what:
     let tally = feeding::feed(t, tally, &buffer[..n]);
     Taken {
         tally,
-        more: chunk.more,
-        whole: chunk.whole,
+        flow: chunk.flow,
     }
 }
 
@@ -150,7 +155,7 @@ pub fn log<R: Input + Clock + Eprint>(rt: &R, t: &mut Table, what: &[u8]) -> Tak
 {
     let mut taken = feed_on(rt, t, feeding::start(), what);
     for _ in 0..u64::MAX {
-        if !taken.more {
+        if taken.flow != Flow::More {
             break;
         }
         let tally = taken.tally;

@@ -5,6 +5,7 @@
 #![tactic(auto)]
 
 use lookup::{Table, WORDS};
+use reading::Flow;
 use record::SIZE;
 use std::io::Result;
 use std::process::ExitCode;
@@ -21,13 +22,12 @@ struct Told {
     written: Result<()>,
 }
 
-// The same of a log that is read, with the bytes of a record that is not whole, whether more may follow, and whether no read has failed.
+// The same of a log that is read, with the bytes of a record that is not whole, and how the log goes on.
 #[derive(Clone, Copy)]
 struct Log {
     told: Told,
     left: usize,
-    more: bool,
-    whole: bool,
+    flow: Flow,
 }
 
 // The line of a record, where it was refused or contradicts. An error says why it was not written.
@@ -55,12 +55,12 @@ fn tell<R: Print>(rt: &R, t: &mut Table, before: Told, r: &[u8]) -> Told {
     let f = record::read(r);
     let bytes = f.bytes;
     let a = table::learn(t, f.id, f.len, &bytes);
-    let records = std::num::wrapping_add_u64(before.records, 1);
+    let records = before.records.wrapping_add(1);
     let written = print(rt, records, a.number, f.id, &bytes);
     let written = before.written.and(written);
     let mut other = before.other;
     if a.number == 2 {
-        other = std::num::wrapping_add_u64(other, 1);
+        other = other.wrapping_add(1);
     }
     Told {
         records,
@@ -90,8 +90,7 @@ fn read_on<R: Input + Clock + Print + Eprint>(rt: &R, t: &mut Table, before: Tol
     Log {
         told,
         left: n % SIZE,
-        more: chunk.more,
-        whole: chunk.whole,
+        flow: chunk.flow,
     }
 }
 
@@ -114,11 +113,10 @@ fn main(rt: HostRuntime) -> ExitCode {
     let mut log = Log {
         told,
         left: 0,
-        more: true,
-        whole: true,
+        flow: Flow::More,
     };
     for _ in 0..u64::MAX {
-        if !log.more {
+        if log.flow != Flow::More {
             break;
         }
         let told = log.told;
@@ -127,7 +125,7 @@ fn main(rt: HostRuntime) -> ExitCode {
     let written = end(&rt, log);
     reading::ended(
         &rt,
-        log.whole,
+        log.flow != Flow::Failed,
         written,
         b"why: the facts could not be written (make room, or set TMPDIR to another folder)",
     )

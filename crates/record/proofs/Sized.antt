@@ -4,14 +4,45 @@ use Prim.Native.Nat.{ℕ, zero, suc, ◌+◌, ◌*◌, ◌-◌, ◌/◌, ◌%◌
 use mathlib.Core.Path.{◌≡◌, refl, sym, ap, ap₂, subst, ◌∙◌}
 use mathlib.Core.List.{List, [], ◌++◌, append_assoc, append-nil}
 use native.Mathlib.Omega.{arith}
-use native.Mathlib.Nat.{not-suc-le-zero, suc-mul, mod-lt, div-add-mod', div-eq_of_lt, add-div_left}
+use native.Mathlib.Nat.{not-suc-le-zero, le_of_suc-le-suc, suc-mul, mod-lt, div-add-mod', div-eq_of_lt, add-div_left}
 use native.Mathlib.Numerals.{add-one}
 use native.Mathlib.Decide.{dec_lt}
 use borrow.Author.Tests.{lt-ltb, le-ltb}
-use lib.ListN.{length, take, drop, replicate, length-append, length-take, length-drop, length-replicate, take-append-drop}
+use lib.ListN.{length, get_or, take, drop, replicate, length-append, length-take, length-drop, length-replicate, take-append-drop}
 use lib.Seq.{take_at, take_all, drop-append-add, drop-drop, length-take-le}
+use Rattle.std.specs.Simd.{first_chunks}
 use Rattle.splice.proofs.Laws.{covered_same, covered-full}
 use Rattle.record.specs.Sized.{whole_by, record_by, left_by, over_to_by, over_by, held_by, carried_by, padded_by, taken_by}
+
+-- the library cuts a list into the same records
+pub chunk-is : (z k : ℕ) (l : List ℕ) (i : ℕ) (d : List ℕ) → i < k → get_or (first_chunks z k l) i d ≡ record_by z l i
+unfolding record_by
+chunk-is z zero l i d h = absurd (not-suc-le-zero h)
+chunk-is z (suc k) l zero d h = let e : 0 * z ≡ 0 = omega arith in rw e
+chunk-is z (suc k) l (suc i) d h =
+    let e : z + i * z ≡ suc i * z = omega (arith, suc-mul i z) in
+    chunk-is z k (drop z l) i d (le_of_suc-le-suc h) ∙ rw (drop-drop (i * z) z l, e)
+
+-- so a step over each of these, in their order, is what all whole records make of a start
+module _ (z : ℕ) (l : List ℕ) (rows : List (List ℕ)) (e : rows ≡ first_chunks z (length l / z) l) (n : length rows ≡ length l / z) {S : Type 0} (step : S → List ℕ → S) (s : S) where
+  pub over_none : s ≡ over_to_by step z s l 0
+  unfolding over_to_by
+  over_none = refl
+
+  pub over_next : (i : ℕ) (d : List ℕ) {p q : S} → i < length rows → p ≡ over_to_by step z s l i → q ≡ step p (get_or rows i d) → q ≡ over_to_by step z s l (i + 1)
+  unfolding over_to_by
+  over_next i d {p} {q} h f g =
+      let is : get_or rows i d ≡ record_by z l i = ap (λ (x : List (List ℕ)). get_or x i d) e ∙ chunk-is z (length l / z) l i d (omega arith) in
+      rw add-one (g ∙ ap₂ step f is)
+
+  pub over_ended : (i : ℕ) {p : S} → i ≡ length rows → p ≡ over_to_by step z s l i → p ≡ over_by step z s l
+  unfolding over_by whole_by
+  over_ended i h f = f ∙ ap (over_to_by step z s l) (h ∙ n)
+
+-- and what it leaves is what is left of a list
+pub cut-is : (z : ℕ) (l cut : List ℕ) → cut ≡ drop (length l / z * z) l → cut ≡ left_by z l
+unfolding left_by whole_by
+cut-is z l cut e = e
 
 module _ (z : ℕ) (some : 0 < z) where
   -- ---- a list that starts with a record

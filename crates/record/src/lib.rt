@@ -2,12 +2,12 @@
 // in chunks needs: the bytes of a cut record, carried from one chunk to the next.
 #![tactic(auto)]
 
-ghost use Rattle.std.specs.Prelude.{◌≡◌, ◌++◌, ◌≤◌, length};
+ghost use Rattle.std.specs.Prelude.{◌≡◌, ◌++◌, ◌-◌, ◌≤◌, length};
 ghost use Rattle.answers.specs.Answers.{outcome, in_numbers};
-ghost use Rattle.record.specs.Record.{four_of, record_in, bytes_of, written};
+ghost use Rattle.record.specs.Record.{record_in, bytes_of, written};
 ghost use Rattle.splice.specs.Splice.{covered};
-ghost use Rattle.record.specs.Sized.{held_by, carried_by, begun_by};
-ghost use Rattle.record.specs.Chunk.{left_in, padded};
+ghost use Rattle.record.specs.Sized.{held_by, carried_by, padded_by, begun_by};
+ghost use Rattle.record.specs.Chunk.{left_in};
 
 use answers::Answer;
 
@@ -22,29 +22,21 @@ pub struct Record {
     pub bytes: [u8; 8],
 }
 
-// Four bytes as one number, the least significant first.
-fn four(a: u8, b: u8, c: u8, d: u8) -> u32
-    ensures { result ≡ four_of a b c d }
-{
-    (a as u32) + (b as u32) * 256 + (c as u32) * 65536 + (d as u32) * 16777216
-}
-
 // The record in the first 13 bytes, or one of zeros where there are fewer.
 pub fn read(s: &[u8]) -> Record
     ensures { result ≡ record_in s.now }
 {
-    if s.len() < SIZE {
+    if let [i, j, k, l, len, a, b, c, d, e, f, g, h, ..] = s {
         return Record {
-            id: 0,
-            len: 0,
-            bytes: [0; 8],
+            id: u32::from_le_bytes([*i, *j, *k, *l]),
+            len: *len,
+            bytes: [*a, *b, *c, *d, *e, *f, *g, *h],
         };
     }
-    let id = four(s[0], s[1], s[2], s[3]);
     Record {
-        id,
-        len: s[4],
-        bytes: [s[5], s[6], s[7], s[8], s[9], s[10], s[11], s[12]],
+        id: 0,
+        len: 0,
+        bytes: [0; 8],
     }
 }
 
@@ -52,21 +44,9 @@ pub fn read(s: &[u8]) -> Record
 fn bytes_of(id: u32, len: u8, d: &[u8; 8]) -> [u8; SIZE]
     ensures { result ≡ bytes_of id len d.now }
 {
-    [
-        (id % 256) as u8,
-        (id / 256 % 256) as u8,
-        (id / 65536 % 256) as u8,
-        (id / 16777216) as u8,
-        len,
-        d[0],
-        d[1],
-        d[2],
-        d[3],
-        d[4],
-        d[5],
-        d[6],
-        d[7],
-    ]
+    let [i, j, k, l] = id.to_le_bytes();
+    let [a, b, c, d, e, f, g, h] = *d;
+    [i, j, k, l, len, a, b, c, d, e, f, g, h]
 }
 
 // Lays a record over the first 13 bytes: 0, or 13 and nothing written where there are fewer.
@@ -82,25 +62,26 @@ pub fn write(s: &mut [u8], id: u32, len: u8, d: &[u8; 8]) -> Answer
 
 // ---- chunks
 
-// How many bytes are carried: as many as a record has or more, as no cut record leaves, counts as 0.
-fn held(size: usize, left: usize) -> usize
-    ensures { (result ≡ held_by size left) × (result ≤ size) }
+// How many bytes of a record of any size are carried: as many as it has or more, as no cut record leaves, counts as 0.
+pub fn held(size: usize, left: usize) -> usize
+    ensures { (result ≡ held_by size left) × (result ≤ size - 1) }
 {
     if left < size { left } else { 0 }
 }
 
 // The same of records of 13 bytes.
+// Kept: `held` at one size, as docs/PROMISES.md names it.
 pub fn left_in(left: usize) -> usize
     ensures { (result ≡ left_in left) × (result ≤ 12) }
 {
     held(SIZE, left)
 }
 
-// 13 bytes: the carried ones and those behind them, as many as fit, and 0 in the rest.
-pub fn joined(carry: &[u8], more: &[u8]) -> [u8; SIZE]
-    ensures { result ≡ padded (carry.now ++ more.now) }
+// As many bytes as a record has: the carried ones and those behind them, as many as fit, and 0 in the rest.
+pub fn joined<const Z: usize>(carry: &[u8], more: &[u8]) -> [u8; Z]
+    ensures { result ≡ padded_by Z (carry.now ++ more.now) }
 {
-    let mut b = [0u8; SIZE];
+    let mut b = [0u8; Z];
     splice::join_in(&mut b, carry, more);
     b
 }
@@ -120,7 +101,7 @@ pub fn begin(out: &mut [u8], carry: &[u8], left: usize, chunk: &[u8]) -> Begun
 {
     let n = held(carry.len(), left);
     splice::join_in(out, &carry[..n], chunk);
-    let taken = splice::shorter(carry.len() - n, chunk.len());
+    let taken = (carry.len() - n).min(chunk.len());
     Begun {
         left: n + taken,
         taken,

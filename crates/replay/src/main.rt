@@ -8,17 +8,17 @@ ghost use Rattle.replay.specs.Bytes.{SomeTrace};
 
 use bridge::{COUNTERS, CounterWords, QUEUES, QueueWords};
 use ports::{Filters, WORDS};
+use reading::Flow;
 use replaying::Tally;
 use std::io::Result;
 use std::process::ExitCode;
 use std::rt::Clock;
 
-// A trace that is read, up to here: its tally, whether more may follow, and whether no read has failed.
+// A trace that is read, up to here: its tally, and how it goes on.
 #[derive(Clone, Copy)]
 struct Taken {
     tally: Tally,
-    more: bool,
-    whole: bool,
+    flow: Flow,
 }
 
 // Feeds the next 64 KB to the bridge.
@@ -41,8 +41,7 @@ fn feed_on<R: Input + Clock + Eprint>(
     let tally = replaying::feed(c, q, w, tally, &buffer[..n]);
     Taken {
         tally,
-        more: chunk.more,
-        whole: chunk.whole,
+        flow: chunk.flow,
     }
 }
 
@@ -58,7 +57,7 @@ fn day<R: Input + Clock + Eprint>(
 {
     let mut taken = feed_on(rt, c, q, w, replaying::start());
     for _ in 0..u64::MAX {
-        if !taken.more {
+        if taken.flow != Flow::More {
             break;
         }
         let tally = taken.tally;
@@ -86,7 +85,7 @@ fn main(rt: HostRuntime) -> ExitCode {
     let written = print(&rt, &c, &q, tally);
     reading::ended(
         &rt,
-        taken.whole,
+        taken.flow != Flow::Failed,
         written,
         b"replay: the replay could not be written",
     )

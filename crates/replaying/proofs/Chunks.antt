@@ -1,6 +1,6 @@
 -- A tally and a chunk, by the laws of chunks (record, Sized.antt): either the chunk completes no record, or the first record is the carried bytes with the start of the chunk; and a trace may be
 -- cut into chunks anywhere. Assumes nothing.
-use Prim.Native.Nat.{ℕ, ◌-◌, ◌%◌, ◌≤◌, ◌<◌}
+use Prim.Native.Nat.{ℕ, ◌-◌, ◌≤◌, ◌<◌}
 use mathlib.Core.Path.{◌≡◌, refl, sym, ap, ap₂, subst, ◌∙◌}
 use mathlib.Core.List.{List, [], ◌∷◌, ◌++◌, append_assoc, append-nil, flatten}
 use native.Mathlib.Omega.{arith}
@@ -15,13 +15,6 @@ use Rattle.replaying.specs.Feed.{State, state, step, tally_of, Fed, fed, cut_off
 
 pub some : 0 < 14
 some = omega arith
-
--- what the whole records of a slice leave
-pub leaving : (l : List ℕ) (k : Counts) (carry : List ℕ) → carry ≡ padded_by 14 (drop (length l - length l % 14) l)
-    → record { counts = k; left = length l % 14; carry = carry } ≡ tally_of k (left_by 14 l)
-leaving l k carry q =
-    let (e, n) = sized.leaving 14 some l in
-    rw (q, ← e, n)
 
 -- ---- a tally and a chunk, and the record that is begun then (`record::begin`)
 

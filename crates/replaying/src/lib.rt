@@ -4,6 +4,7 @@
 
 ghost use Rattle.std.specs.Prelude.{◌≡◌};
 ghost use Rattle.answers.specs.Answers.{outcome, in_numbers};
+ghost use Rattle.text.specs.Page.{Laid};
 ghost use Rattle.text.specs.Text.{page, put_all};
 ghost use Rattle.record.specs.Sized.{left_by, over_by};
 ghost use Rattle.bridge.specs.Bridge.{bridge, standing_as, standing};
@@ -15,12 +16,14 @@ use answers::Answer;
 use bridge::{CounterWords, QueueWords, Standing};
 use counters::Counters;
 use ports::Filters;
+use text::Page;
 use trace::{Entry, SIZE};
 
 // So many bytes hold any text of a replay (proofs/Widths.antt).
 pub const PAGE: usize = 2304;
 
-// What is counted of a trace's records, each modulo 2^64. (`repr(C)`: firmware hands these two to C as they are.)
+// What is counted of a trace's records, each modulo 2^64.
+// Kept: `repr(C)`, as firmware hands the counts and the tally to C as they are.
 #[repr(C)]
 #[derive(Clone, Copy)]
 pub struct Counts {
@@ -32,6 +35,7 @@ pub struct Counts {
     pub other: u64, // records that are none of these
 }
 
+// Kept: beside feeding's tally, which has other counts, as C has each as a struct of its own.
 // What is kept from chunk to chunk: the counts, and the first `left` bytes of a record that is not whole yet, with 0 behind them.
 #[repr(C)]
 #[derive(Clone, Copy)]
@@ -43,53 +47,51 @@ pub struct Tally {
 
 // ---- counts
 
+// Kept: the four that follow differ in the field that they count, and a field is nothing that could be handed over.
+
 // One record more, a frame.
-fn with_frame(mut k: Counts) -> Counts
+fn with_frame(k: Counts) -> Counts
     ensures { result ≡ with_frame k }
 {
-    let events = counters::one_more(k.events);
-    let frames = counters::one_more(k.frames);
-    k.events = events;
-    k.frames = frames;
-    k
+    Counts {
+        events: k.events.wrapping_add(1),
+        frames: k.frames.wrapping_add(1),
+        ..k
+    }
 }
 
 // A slot.
-fn with_slot(mut k: Counts) -> Counts
+fn with_slot(k: Counts) -> Counts
     ensures { result ≡ with_slot k }
 {
-    let events = counters::one_more(k.events);
-    let slots = counters::one_more(k.slots);
-    k.events = events;
-    k.slots = slots;
-    k
+    Counts {
+        events: k.events.wrapping_add(1),
+        slots: k.slots.wrapping_add(1),
+        ..k
+    }
 }
 
 // A command that was answered with this number.
-fn with_command(mut k: Counts, number: u8) -> Counts
+fn with_command(k: Counts, number: u8) -> Counts
     ensures { result ≡ with_command k number }
 {
-    let events = counters::one_more(k.events);
-    let commands = counters::one_more(k.commands);
-    k.events = events;
-    k.commands = commands;
-    if number == 0 {
-        return k;
+    Counts {
+        events: k.events.wrapping_add(1),
+        commands: k.commands.wrapping_add(1),
+        refused: k.refused.wrapping_add(u64::from(number != 0)),
+        ..k
     }
-    let refused = counters::one_more(k.refused);
-    k.refused = refused;
-    k
 }
 
 // None of these.
-fn with_other(mut k: Counts) -> Counts
+fn with_other(k: Counts) -> Counts
     ensures { result ≡ with_other k }
 {
-    let events = counters::one_more(k.events);
-    let other = counters::one_more(k.other);
-    k.events = events;
-    k.other = other;
-    k
+    Counts {
+        events: k.events.wrapping_add(1),
+        other: k.other.wrapping_add(1),
+        ..k
+    }
 }
 
 // ---- records
@@ -109,23 +111,23 @@ fn play(c: &mut CounterWords, q: &mut QueueWords, w: &mut Filters, k: Counts, e:
         ≡ played (state (bridge c.old q.old) w.old k) e }
 {
     match e {
-        Entry::Frame(port, id) => {
+        Entry::Frame { port, id } => {
             bridge::offer(c, q, w, port, id);
             with_frame(k)
         }
-        Entry::Slot(port) => {
+        Entry::Slot { port } => {
             let_go(c, q, port);
             with_slot(k)
         }
-        Entry::Add(from, to, pgn) => {
+        Entry::Add { from, to, pgn } => {
             let a = ports::add(w, from, to, pgn);
             with_command(k, a.number)
         }
-        Entry::Delete(from, to, pgn) => {
+        Entry::Delete { from, to, pgn } => {
             let a = ports::delete(w, from, to, pgn);
             with_command(k, a.number)
         }
-        Entry::Renew(from, to, mode) => {
+        Entry::Renew { from, to, mode } => {
             let a = ports::renew(w, from, to, mode);
             with_command(k, a.number)
         }
@@ -138,12 +140,10 @@ fn all(c: &mut CounterWords, q: &mut QueueWords, w: &mut Filters, k: Counts, s: 
     ensures { state (bridge c.new q.new) w.new result
         ≡ over_by step 14 (state (bridge c.old q.old) w.old k) s.now }
 {
+    let (records, _) = s.as_chunks::<SIZE>();
     let mut counts = k;
-    let mut i = 0;
-    while SIZE <= s.len() - i {
-        let e = i + SIZE;
-        counts = play(c, q, w, counts, trace::read(&s[i..e]));
-        i = e;
+    for r in records {
+        counts = play(c, q, w, counts, trace::read(r));
     }
     counts
 }
@@ -154,12 +154,11 @@ fn all(c: &mut CounterWords, q: &mut QueueWords, w: &mut Filters, k: Counts, s: 
 fn tally_of(counts: Counts, s: &[u8]) -> Tally
     ensures { result ≡ tally_of counts (left_by 14 s.now) }
 {
-    let left = s.len() % SIZE;
-    let from = s.len() - left;
-    let carry = trace::joined(b"", &s[from..]);
+    let (_, cut) = s.as_chunks::<SIZE>();
+    let carry = record::joined(b"", cut);
     Tally {
         counts,
-        left,
+        left: cut.len(),
         carry,
     }
 }
@@ -211,90 +210,80 @@ pub fn feed(
 // ---- text
 
 // Lays six counters, a blank behind each.
-fn put_six(out: &mut [u8], at: usize, k: Counters) -> usize
-    ensures { page result out.new ≡ put_all (page at out.old) (six_of k) }
+fn put_six(page: &mut Page, k: Counters)
+    ensures { Laid page.old page.new (six_of k) }
 {
-    let at = text::put_number(out, at, k.arrived, b" ");
-    let at = text::put_number(out, at, k.filtered, b" ");
-    let at = text::put_number(out, at, k.queued, b" ");
-    let at = text::put_number(out, at, k.sent, b" ");
-    let at = text::put_number(out, at, k.turned, b" ");
-    text::put_number(out, at, k.refused, b" ")
+    page.number(k.arrived, b" ");
+    page.number(k.filtered, b" ");
+    page.number(k.queued, b" ");
+    page.number(k.sent, b" ");
+    page.number(k.turned, b" ");
+    page.number(k.refused, b" ");
 }
 
 // Lays the line of a pair.
-fn put_line(out: &mut [u8], at: usize, from: u8, to: u8, s: Standing) -> usize
-    ensures { page result out.new ≡ put_all (page at out.old) (line_of from to (standing_as s)) }
+fn put_line(page: &mut Page, from: u8, to: u8, s: Standing)
+    ensures { Laid page.old page.new (line_of from to (standing_as s)) }
 {
-    let at = text::put_number(out, at, from as u64, b" ");
-    let at = text::put_number(out, at, to as u64, b" ");
+    page.number(from as u64, b" ");
+    page.number(to as u64, b" ");
     let counters = s.counters;
-    let at = put_six(out, at, counters);
-    text::put_number(out, at, s.waiting, b"\n")
+    put_six(page, counters);
+    page.number(s.waiting, b"\n");
 }
 
 // Lays the line of one pair, by what the words hold of it.
-fn put_pair(c: &CounterWords, q: &QueueWords, out: &mut [u8], at: usize, from: u8, to: u8) -> usize
-    ensures { page result out.new ≡ put_all (page at out.old) (pair_line (bridge c.now q.now) from to) }
+fn put_pair(c: &CounterWords, q: &QueueWords, page: &mut Page, from: u8, to: u8)
+    ensures { Laid page.old page.new (pair_line (bridge c.now q.now) from to) }
 {
-    put_line(out, at, from, to, bridge::pair(c, q, from, to))
+    put_line(page, from, to, bridge::pair(c, q, from, to));
 }
 
 // Lays the lines of the three pairs from one port.
-fn put_three(
-    c: &CounterWords,
-    q: &QueueWords,
-    out: &mut [u8],
-    at: usize,
-    from: u8,
-    x: u8,
-    y: u8,
-    z: u8,
-) -> usize
-    ensures { page result out.new ≡ put_all (page at out.old) (three_lines (bridge c.now q.now) from x y z) }
+// Kept: three calls say in a line each what a loop over the others of a port would say in as many.
+fn put_three(c: &CounterWords, q: &QueueWords, page: &mut Page, from: u8, x: u8, y: u8, z: u8)
+    ensures { Laid page.old page.new (three_lines (bridge c.now q.now) from x y z) }
 {
-    let at = put_pair(c, q, out, at, from, x);
-    let at = put_pair(c, q, out, at, from, y);
-    put_pair(c, q, out, at, from, z)
+    put_pair(c, q, page, from, x);
+    put_pair(c, q, page, from, y);
+    put_pair(c, q, page, from, z);
 }
 
 // Lays how many records there were, and of each kind.
-fn put_kinds(out: &mut [u8], at: usize, k: Counts) -> usize
-    ensures { page result out.new ≡ put_all (page at out.old) (kinds_of k) }
+fn put_kinds(page: &mut Page, k: Counts)
+    ensures { Laid page.old page.new (kinds_of k) }
 {
-    let at = text::put_bytes(out, at, b"EVENTS ");
-    let at = text::put_number(out, at, k.events, b" FRAMES ");
-    let at = text::put_number(out, at, k.frames, b" SLOTS ");
-    let at = text::put_number(out, at, k.slots, b" COMMANDS ");
-    text::put_number(out, at, k.commands, b" REFUSED ")
+    page.bytes(b"EVENTS ");
+    page.number(k.events, b" FRAMES ");
+    page.number(k.frames, b" SLOTS ");
+    page.number(k.slots, b" COMMANDS ");
+    page.number(k.commands, b" REFUSED ");
 }
 
 // Lays the last line.
-fn put_last(out: &mut [u8], at: usize, k: Counts, left: usize) -> usize
-    ensures { page result out.new ≡ put_all (page at out.old) (last_line k left) }
+fn put_last(page: &mut Page, k: Counts, left: usize)
+    ensures { Laid page.old page.new (last_line k left) }
 {
-    let at = put_kinds(out, at, k);
-    let at = text::put_number(out, at, k.refused, b" OTHER ");
-    let at = text::put_number(out, at, k.other, b" LEFT ");
-    text::put_number(out, at, left as u64, b"\n")
+    put_kinds(page, k);
+    page.number(k.refused, b" OTHER ");
+    page.number(k.other, b" LEFT ");
+    page.number(left as u64, b"\n");
 }
 
 // Lays the whole text: a header line, the twelve pairs rising, the counts.
 fn put_replay(c: &CounterWords, q: &QueueWords, s: Tally, out: &mut [u8]) -> usize
     ensures { page result out.new ≡ put_all (page 0 out.old) (pieces_of (bridge c.now q.now) s) }
 {
-    let at = text::put_bytes(
-        out,
-        0,
-        b"FROM TO ARRIVED FILTERED QUEUED SENT TURNED REFUSED WAITING\n",
-    );
-    let at = put_three(c, q, out, at, 1, 2, 3, 4);
-    let at = put_three(c, q, out, at, 2, 1, 3, 4);
-    let at = put_three(c, q, out, at, 3, 1, 2, 4);
-    let at = put_three(c, q, out, at, 4, 1, 2, 3);
+    let mut page = Page::new(out, 0);
+    page.bytes(b"FROM TO ARRIVED FILTERED QUEUED SENT TURNED REFUSED WAITING\n");
+    put_three(c, q, &mut page, 1, 2, 3, 4);
+    put_three(c, q, &mut page, 2, 1, 3, 4);
+    put_three(c, q, &mut page, 3, 1, 2, 4);
+    put_three(c, q, &mut page, 4, 1, 2, 3);
     let counts = s.counts;
-    let left = trace::left_in(s.left);
-    put_last(out, at, counts, left)
+    let left = record::held(SIZE, s.left);
+    put_last(&mut page, counts, left);
+    page.at()
 }
 
 // Lays the text over the start of `out`: 0 with its length, or 13 and nothing written where `out` is too short. 2,304 bytes are never too short.

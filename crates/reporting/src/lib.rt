@@ -2,10 +2,11 @@
 #![tactic(auto)]
 
 use feeding::Tally;
-use lookup::{Next, ROWS, Table};
+use lookup::Table;
 use message::Key;
 use std::io::Result;
 use tally::Cells;
+use text::Page;
 
 // Room for the header or the last line.
 const LINE: usize = 128;
@@ -17,38 +18,37 @@ fn write<P: Print>(out: &P, page: &[u8], n: usize) -> Result<()> {
 }
 
 fn write_header<P: Print>(out: &P) -> Result<()> {
-    let mut page = [0u8; LINE];
-    let n = report::put_header(&mut page, 0);
-    write(out, &page, n)
+    let mut bytes = [0u8; LINE];
+    let mut page = Page::new(&mut bytes, 0);
+    report::put_header(&mut page);
+    let n = page.at();
+    write(out, &bytes, n)
 }
 
 fn write_key<P: Print>(out: &P, t: &Table, acc: &Cells, limit: u32, key: Key) -> Result<()> {
-    let mut page = [0u8; report::PAGE];
-    let n = report::put_key(t, acc, limit, key, &mut page, 0);
-    write(out, &page, n)
+    let mut bytes = [0u8; report::PAGE];
+    let mut page = Page::new(&mut bytes, 0);
+    report::put_key(t, acc, limit, key, &mut page);
+    let n = page.at();
+    write(out, &bytes, n)
 }
 
-// The held keys; 16 rows hold no more than 16.
+// The held keys.
 fn write_keys<P: Print>(out: &P, t: &Table, acc: &Cells, limit: u32) -> Result<()> {
     let mut all = Ok(());
-    let mut next = lookup::first_key(t);
-    for _ in 0..ROWS {
-        match next {
-            Next::Found(key) => {
-                all = all.and(write_key(out, t, acc, limit, key));
-                next = lookup::next_key(t, key.source, key.destination, key.k);
-            }
-            Next::NoMore => return all,
-        }
+    for key in lookup::keys(t) {
+        all = all.and(write_key(out, t, acc, limit, key));
     }
     all
 }
 
 fn write_last<P: Print>(out: &P, tally: Tally) -> Result<()> {
-    let mut page = [0u8; LINE];
+    let mut bytes = [0u8; LINE];
+    let mut page = Page::new(&mut bytes, 0);
     let counts = tally.counts;
-    let n = listing::put_last(&mut page, 0, counts, record::left_in(tally.left));
-    write(out, &page, n)
+    listing::put_last(&mut page, counts, record::left_in(tally.left));
+    let n = page.at();
+    write(out, &bytes, n)
 }
 
 // An error says why not the whole report was written.

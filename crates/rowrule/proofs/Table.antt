@@ -1,13 +1,14 @@
--- The two tables: each has as many rows as it says and obeys the rule, each computed once over all its rows; and the pairs of numbers of the code's tables
--- stand for their rows.
+-- The two tables: each has as many rows as it says and obeys the rule, each computed once over all its rows; and the pairs of numbers
+-- that the rows are said by stand for them.
 -- Assumes nothing.
-use Prim.Native.Nat.{ℕ, zero, suc}
+use Prim.Native.Nat.{ℕ}
 use mathlib.Core.Path.{◌≡◌, refl, ap}
 use mathlib.Core.Bool.{Bool, true, false, cond}
 use mathlib.Core.List.{List, [], ◌∷◌, map}
 use lib.Dec.{T, eqb}
-use lib.ListN.{length, get_or, length-map}
-use Rattle.rowrule.specs.Rows.{Row, row_in, ruled, row_count, table, table2004, rows_by, pair, pairs, pairs2004, row_of_pair, rows_in}
+use lib.ListN.{length}
+use Rattle.rowrule.specs.declared.Row.{Row}
+use Rattle.rowrule.specs.Rows.{ruled, row_count, table, table2004, rows_by, pair, pairs, pairs2004, rows_in}
 
 -- ---- the rule
 
@@ -50,12 +51,3 @@ pairs_back = back table
 pub pairs_back_2004 : rows_in pairs2004 ≡ table2004
 unfolding pairs2004
 pairs_back_2004 = back table2004
-
--- as many rows as pairs, and pair i has the SPN and the width of row i
-pub rows-size : (ps : List (List ℕ)) → length (rows_in ps) ≡ length ps
-rows-size ps = length-map ps row_of_pair
-
-pub pair-at : (ps : List (List ℕ)) (i : ℕ) → (get_or (get_or ps i []) 0 0 ≡ (row_in (rows_in ps) i).spn) × (get_or (get_or ps i []) 1 0 ≡ (row_in (rows_in ps) i).width)
-pair-at [] i = (refl, refl)
-pair-at (p ∷ ps) zero = (refl, refl)
-pair-at (p ∷ ps) (suc i) = pair-at ps i

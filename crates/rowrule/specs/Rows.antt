@@ -2,12 +2,9 @@
 -- Assumes nothing.
 use Rattle.std.specs.Prelude.{ℕ, suc, Bool, true, cond, ◌&&◌, eqb, leb, get_or}
 use mathlib.Core.List.{List, [], ◌∷◌, map}
+use Rattle.rowrule.specs.declared.Row.{Row}
 
 -- a row: an SPN and the width of its parameter in bits
-pub record Row : Type 0 where
-  pub spn : ℕ
-  pub width : ℕ
-
 abbrev pub row : ℕ → ℕ → Row
 row s w = record { spn = s; width = w }
 
@@ -194,7 +191,7 @@ table2004 =
 abbrev pub rows_by : ℕ → List Row
 rows_by edition = cond (eqb edition 2004) table2004 table
 
--- ---- rows as the code's tables have them: SPN and width
+-- ---- rows as pairs of numbers, SPN and width, and back (`pairs_back`)
 
 abbrev pub pair : Row → List ℕ
 pair r = r.spn ∷ r.width ∷ []

@@ -1,4 +1,5 @@
 // Questions about a key: judge and count, find, the parameter at a position, pack and read.
+use crate::keys::key_in;
 use crate::said::number;
 use answers::Answer;
 use ask::{Found, Parameter};
@@ -7,13 +8,13 @@ use lookup::Table;
 
 fn judged(a: Answer, n: u8) {
     number(a);
-    more(n as u32);
+    more(n);
     end();
 }
 
 fn found(f: Found) {
     number(f.answer);
-    more(f.position as u32);
+    more(f.position);
     more(f.start);
     more(f.width);
     end();
@@ -29,7 +30,7 @@ fn parameter(p: Parameter) {
 
 fn pack(t: &Table, b: &[u8; 14], given: &[u32], out: &mut [u8]) {
     io::read_full(STDIN_FILENO, out);
-    number(ask::pack(t, b[1], b[2], b[3], given, out));
+    number(ask::pack(t, key_in(b), given, out));
     bytes(out);
     end();
 }
@@ -37,7 +38,7 @@ fn pack(t: &Table, b: &[u8; 14], given: &[u32], out: &mut [u8]) {
 fn read(t: &Table, b: &[u8; 14], given: &mut [u32], payload: &mut [u8], states: &mut [u8]) {
     io::read_full(STDIN_FILENO, payload);
     io::read_full(STDIN_FILENO, states);
-    number(ask::read(t, b[1], b[2], b[3], payload, given, states));
+    number(ask::read(t, key_in(b), payload, given, states));
     numbers(given);
     bytes(states);
     end();
@@ -60,12 +61,9 @@ fn with_lists(t: &Table, b: &[u8; 14]) {
 
 pub(crate) fn run(t: &Table, b: &[u8; 14]) {
     match b[0] {
-        10 => judged(
-            ask::judge(t, b[1], b[2], b[3]),
-            ask::count(t, b[1], b[2], b[3]),
-        ),
-        11 => found(ask::find(t, b[1], b[2], b[3], four(b[4], b[5], b[6], b[7]))),
-        14 => parameter(ask::parameter_at(t, b[1], b[2], b[3], b[4])),
+        10 => judged(ask::judge(t, key_in(b)), ask::count(t, key_in(b))),
+        11 => found(ask::find(t, key_in(b), four(b[4], b[5], b[6], b[7]))),
+        14 => parameter(ask::parameter_at(t, key_in(b), b[4])),
         _ => with_lists(t, b),
     }
 }

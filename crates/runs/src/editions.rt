@@ -1,4 +1,5 @@
 // A key's edition of the dictionary: giving it another one, and which it has.
+use crate::keys::key_in;
 use crate::said::answer;
 use lines::{STDOUT_FILENO, end, four, more};
 use lookup::Table;
@@ -11,8 +12,8 @@ fn shown(number: u32) {
 
 pub(crate) fn run(t: &mut Table, b: &[u8; 14]) {
     if b[0] == 16 {
-        answer(edition::set_edition(t, b[1], b[2], b[3], four(b[4], b[5], b[6], b[7])));
+        answer(edition::set_edition(t, key_in(b), four(b[4], b[5], b[6], b[7])));
     } else {
-        shown(lookup::edition_of(t, b[1], b[2], b[3]));
+        shown(lookup::edition_of(t, key_in(b)));
     }
 }

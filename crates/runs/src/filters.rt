@@ -2,7 +2,7 @@
 use crate::said::{answer, detail};
 use answers::Answer;
 use lines::{end, first, four, more, two};
-use ports::{Filters, WORDS};
+use ports::Filters;
 
 fn call(w: &mut Filters, what: u8, from: u8, to: u8, x: u32) -> Answer {
     match what {
@@ -19,8 +19,8 @@ fn is_refused(from: u8, to: u8, a: Answer) -> bool {
         return true;
     }
     first(from);
-    more(to as u32);
-    more(a.number as u32);
+    more(to);
+    more(a.number);
     detail(a);
     end();
     false
@@ -32,7 +32,7 @@ fn from_port(w: &mut Filters, what: u8, from: u8, x: u32, before: u32) -> u32 {
     for to in 0..=u8::MAX {
         let a = call(w, what, from, to, x);
         if is_refused(from, to, a) {
-            refused = std::num::wrapping_add_u32(refused, 1);
+            refused = refused.wrapping_add(1);
         }
     }
     refused
@@ -43,15 +43,9 @@ fn sweep(w: &mut Filters, what: u8, x: u32) {
     for from in 0..=u8::MAX {
         refused = from_port(w, what, from, x, refused);
     }
-    first(15);
+    first(15u8);
     more(refused);
     end();
-}
-
-fn put(w: &mut Filters, at: usize, x: u32) {
-    if at < WORDS {
-        w[at] = x;
-    }
 }
 
 pub(crate) fn run(w: &mut Filters, b: &[u8; 14]) {
@@ -59,6 +53,6 @@ pub(crate) fn run(w: &mut Filters, b: &[u8; 14]) {
     match b[0] {
         1 => answer(call(w, b[1], b[2], b[3], x)),
         2 => sweep(w, b[1], x),
-        _ => put(w, two(b[1], b[2]), x),
+        _ => lines::put(w, two(b[1], b[2]), x),
     }
 }

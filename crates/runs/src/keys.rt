@@ -1,59 +1,53 @@
 // The learned table: learning, forgetting, the held keys, and words written into it.
 use crate::said::answer;
-use lines::{STDOUT_FILENO, end, four, long, more, two};
-use lookup::{Next, Table, WORDS};
+use lines::{STDOUT_FILENO, eight, end, four, more, two};
+use lookup::Table;
+use message::Key;
 
-// A key, where there is one, and whether there is.
-fn is_key(n: Next) -> bool {
-    match n {
-        Next::Found(k) => {
-            more(k.source as u32);
-            more(k.destination as u32);
-            more(k.k as u32);
-            true
-        }
-        Next::NoMore => false,
-    }
+fn key(k: Key) {
+    more(k.source);
+    more(k.destination);
+    more(k.k);
 }
 
-fn after(t: &Table, n: Next) -> Next {
-    match n {
-        Next::Found(k) => lookup::next_key(t, k.source, k.destination, k.k),
-        Next::NoMore => Next::NoMore,
+// The key that a case names.
+pub(crate) fn key_in(b: &[u8; 14]) -> Key {
+    Key {
+        source: b[1],
+        destination: b[2],
+        k: b[3],
     }
 }
 
 // The held keys; 16 at most, so a walk that goes on past 20 is broken off.
+// Kept: by the two calls that C has, and not by lookup::keys, since it is those that this program runs.
 fn walk(t: &Table) {
     io::write_all(STDOUT_FILENO, b"keys");
     let mut at = lookup::first_key(t);
     for _ in 0..20 {
-        if !is_key(at) {
+        let Some(k) = at else {
             break;
-        }
-        at = after(t, at);
+        };
+        key(k);
+        at = lookup::next_key(t, k);
     }
     end();
 }
 
-fn next(t: &Table, source: u8, destination: u8, k: u8) {
+fn next(t: &Table, after: Key) {
     io::write_all(STDOUT_FILENO, b"next");
-    is_key(lookup::next_key(t, source, destination, k));
-    end();
-}
-
-fn put(t: &mut Table, at: usize, low: u32, high: u32) {
-    if at < WORDS {
-        t[at] = low as u64 + high as u64 * 4294967296;
+    if let Some(k) = lookup::next_key(t, after) {
+        key(k);
     }
+    end();
 }
 
 fn dump(t: &Table) {
     io::write_all(STDOUT_FILENO, b"words");
-    for i in 0..WORDS {
-        if t[i] != 0 {
-            long(i as u64);
-            long(t[i]);
+    for (i, word) in t.iter().enumerate() {
+        if *word != 0 {
+            more(i as u64);
+            more(*word);
         }
     }
     end();
@@ -61,21 +55,11 @@ fn dump(t: &Table) {
 
 pub(crate) fn run(t: &mut Table, b: &[u8; 14]) {
     match b[0] {
-        4 => answer(table::learn(
-            t,
-            four(b[1], b[2], b[3], b[4]),
-            b[5],
-            &[b[6], b[7], b[8], b[9], b[10], b[11], b[12], b[13]],
-        )),
-        5 => answer(table::forget(t, b[1], b[2], b[3])),
+        4 => answer(table::learn(t, four(b[1], b[2], b[3], b[4]), b[5], &eight(b, 6))),
+        5 => answer(table::forget(t, key_in(b))),
         6 => walk(t),
-        7 => next(t, b[1], b[2], b[3]),
-        8 => put(
-            t,
-            two(b[1], b[2]),
-            four(b[3], b[4], b[5], b[6]),
-            four(b[7], b[8], b[9], b[10]),
-        ),
+        7 => next(t, key_in(b)),
+        8 => lines::put(t, two(b[1], b[2]), u64::from_le_bytes(eight(b, 3))),
         _ => dump(t),
     }
 }

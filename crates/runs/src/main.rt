@@ -32,6 +32,7 @@ use lookup::Table;
 use ports::Filters;
 
 fn run(w: &mut Filters, t: &mut Table, b: &[u8; 14]) {
+    // Kept: a number, since the tag is a byte of the files that tests/model.py writes (tests/README.md).
     match b[0] {
         0 => {
             ports::fresh(w);
@@ -49,11 +50,7 @@ fn run(w: &mut Filters, t: &mut Table, b: &[u8; 14]) {
 fn main() {
     let mut w = [0u32; ports::WORDS];
     let mut t = [0u64; lookup::WORDS];
-    let mut b = [0u8; 14];
-    for _ in 0..u64::MAX {
-        if !lines::case(&mut b) {
-            break;
-        }
+    for b in (0..u64::MAX).map_while(|_| lines::next_case()) {
         run(&mut w, &mut t, &b);
     }
 }

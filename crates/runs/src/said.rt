@@ -6,8 +6,8 @@ use lines::{end, first, more};
 pub(crate) fn detail(a: Answer) {
     let j = a.judgement;
     more(a.detail);
-    more(answers::number_of(j) as u32);
-    more(answers::position_of(j) as u32);
+    more(answers::number_of(j));
+    more(answers::position_of(j));
 }
 
 // The start of an answer's line.

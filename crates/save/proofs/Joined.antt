@@ -3,7 +3,7 @@ use Prim.Native.Nat.{ℕ, zero, suc, ◌+◌, ◌≤◌, ◌<◌}
 use native.Mathlib.Omega.{arith}
 use mathlib.Core.Path.{◌≡◌, refl, sym, ap, ◌∙◌}
 use mathlib.Core.Option.{Option}
-use mathlib.Core.List.{List, [], ◌∷◌, flatten}
+use mathlib.Core.List.{List, [], ◌∷◌, ◌++◌, flatten}
 use borrow.Author.Tests.{lt-ltb, le-ltb}
 use lib.Dec.{ltb}
 use lib.ListN.{length, length-append}
@@ -11,8 +11,8 @@ use Rattle.answers.specs.Answers.{Said, outcome, plain}
 use Rattle.answers.specs.Tests.{◌when◌, tested}
 use Rattle.splice.specs.Splice.{splice, laid}
 use Rattle.splice.proofs.Laws.{lay_no, laid-is}
-use Rattle.text.specs.Text.{Page, page, put, put_all}
-use Rattle.text.proofs.Pieces.{put-more, flat_more, pieces_laid}
+use Rattle.text.specs.Text.{Page, page, put_all}
+use Rattle.text.proofs.Pieces.{flat_more, pieces_laid}
 use Rattle.message.specs.declared.Key.{Key}
 use Rattle.message.specs.declared.Head.{Head}
 use Rattle.message.specs.declared.Place.{Place}
@@ -86,20 +86,19 @@ saved_0 : (x out later : List ℕ) (a : Said) → a ≡ plain 0 → length x ≤
 saved_0 x out later a e h f = rw (e, f ∙ sym (laid-is out 0 x (omega arith)).1, le-ltb (length out) (length x) h)
 
 module _ (form : ℕ) (t out : List ℕ) where
-  abbrev rows : ℕ → List (List ℕ)
-  rows from = row_pieces form (edition_in t) (map_in t) from (saved_keys t)
+  abbrev rows : List Key → ℕ → List (List ℕ)
+  rows ks from = row_pieces form (edition_in t) (map_in t) from ks
 
-  abbrev bodies : List (List ℕ)
-  bodies = bodies_pieces (map_in t) (saved_keys t)
+  abbrev bodies : List Key → List (List ℕ)
+  bodies ks = bodies_pieces (map_in t) ks
 
   -- the whole image, of its three parts
-  pub image_laid : (c from : ℕ) (p q r : Page) → c ≡ length (saved_keys t) → from ≡ behind form c → p ≡ put out 0 (form ∷ c ∷ []) → q ≡ put_all p (row_pieces form (edition_in t) (map_in t) from (saved_keys t))
-      → r ≡ put_all q (bodies_pieces (map_in t) (saved_keys t)) → r ≡ put_all (page 0 out) (image_pieces form (edition_in t) (map_in t) (saved_keys t))
-  unfolding put_all
-  image_laid c from p q r e b f g h =
-      h ∙ ap (λ (x : Page). put_all x bodies) (g ∙ (λ i. put_all (f i) (rows (b i))))
-      ∙ ap (λ (n : ℕ). put_all (put_all (put out 0 (form ∷ n ∷ [])) (rows (behind form n))) bodies) e
-      ∙ sym (put-more (rows (behind form (length (saved_keys t)))) bodies (put out 0 (form ∷ length (saved_keys t) ∷ [])))
+  pub image_pieces_are : (ks : List Key) (c from : ℕ) → ks ≡ saved_keys t → c ≡ length ks → from ≡ behind form c
+      → put_all (page 0 out) ((form ∷ c ∷ []) ∷ (rows ks from ++ bodies ks)) ≡ put_all (page 0 out) (image_pieces form (edition_in t) (map_in t) (saved_keys t))
+  image_pieces_are ks c from its e b =
+      ap (λ (n : ℕ). put_all (page 0 out) ((form ∷ c ∷ []) ∷ (rows ks n ++ bodies ks))) b
+      ∙ ap (λ (n : ℕ). put_all (page 0 out) ((form ∷ n ∷ []) ∷ (rows ks (behind form n) ++ bodies ks))) e
+      ∙ ap (λ (x : List Key). put_all (page 0 out) (image_pieces form (edition_in t) (map_in t) x)) its
 
   -- where it has room: how long it is, and what the buffer holds
   pub laid_in : (r : ℕ) (later : List ℕ) → length (image_in form t) ≤ length out → page r later ≡ put_all (page 0 out) (image_pieces form (edition_in t) (map_in t) (saved_keys t))

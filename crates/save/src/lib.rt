@@ -2,25 +2,28 @@
 // answer.
 #![tactic(auto)]
 
-ghost use Rattle.std.specs.Prelude.{◌≡◌, cond, [], ◌∷◌, ◌≤◌, length};
+ghost use Rattle.std.specs.Prelude.{◌≡◌, [], ◌∷◌, true, ◌≤◌, length, take};
 ghost use Rattle.answers.specs.Answers.{in_numbers, outcome};
 ghost use Rattle.splice.specs.Splice.{laid};
+ghost use Rattle.text.specs.Page.{Laid};
 ghost use Rattle.text.specs.Text.{page, put_all};
-ghost use Rattle.keyrow.specs.Row.{row_words, form_word};
+ghost use Rattle.keyrow.specs.Row.{form_word};
 ghost use Rattle.keyrow.specs.View.{head_of, place_of, place_in};
 ghost use Rattle.lookup.specs.View.{map_in, edition_in};
 ghost use Rattle.image.specs.Write.{place_or, body_of, edition_byte, full_row, row_size, row_bytes, behind as behind_of, bodies_of, is_saved, saved_keys, image_in, image_of, saved_into};
-ghost use Rattle.save.specs.Pieces.{body_pieces, map_pieces, marks_of, row_pieces, bodies_pieces, image_pieces};
+ghost use Rattle.save.specs.Pieces.{body_pieces, map_pieces, row_pieces, bodies_pieces, image_pieces};
 
 use answers::Answer;
-use keyrow::{EDITION_2004, FORM, POSITIONS};
-use lookup::{Next, ROWS, Table};
+use keyrow::{EDITION_2004, FORM, POSITIONS, ROW_WORDS};
+use lookup::{ROWS, Table};
 use message::{Key, Place};
+use text::Page;
 
 // No table that calls have made has a longer image (law most-long): 16 rows with 31 positions each.
 pub const MOST: usize = 2610;
 
 // The form of an image, its byte 0: form 1 has no editions, and is no longer written.
+// Kept: a number and no enum, as load says.
 pub const OLD: u8 = 1;
 
 pub const WRITTEN: u8 = 2;
@@ -50,8 +53,8 @@ pub fn behind(form: u8, count: u8) -> usize
 // ---- a body
 
 // The cell of a position, 0 where a row has none.
-fn cell_of(row: &[u64], p: u8) -> u64
-    requires { length row.now ≡ row_words }
+// Kept: 0 is the cell of an empty place, which keyrow reads; the row lies in words that C lends.
+fn cell_of(row: &[u64; ROW_WORDS], p: u8) -> u64
     ensures { place_of result ≡ place_in row.now p }
 {
     let p = p as usize;
@@ -62,8 +65,7 @@ fn cell_of(row: &[u64], p: u8) -> u64
 }
 
 // What a row has at a position, zeros where it has nothing.
-fn place_at(row: &[u64], p: u8) -> Place
-    requires { length row.now ≡ row_words }
+fn place_at(row: &[u64; ROW_WORDS], p: u8) -> Place
     ensures { result ≡ place_or (place_in row.now p) }
 {
     let cell = cell_of(row, p);
@@ -74,48 +76,33 @@ fn place_at(row: &[u64], p: u8) -> Place
 }
 
 // Lays the body of a row that is held: five bytes a position.
-fn put_row_body(row: &[u64], out: &mut [u8], at: usize) -> usize
-    requires { length row.now ≡ row_words }
-    ensures { page result out.new
-        ≡ put_all (page at out.old) (body_pieces (head_of (form_word row.now)) (place_in row.now) 1 (head_of (form_word row.now)).n) }
+fn put_row_body(row: &[u64; ROW_WORDS], page: &mut Page)
+    ensures { Laid page.old page.new (body_pieces (head_of (form_word row.now)) (place_in row.now) 1 (head_of (form_word row.now)).n) }
 {
     let head = keyrow::head_of(row[FORM]);
     let n = head.n;
-    let mut left = n;
-    let mut place = at;
-    while 0 < left {
-        let p = n - left + 1;
+    for i in 0..n {
+        let p = i + 1;
         let five = written::five_of(head, p, place_at(row, p));
-        place = text::put_bytes(out, place, &five);
-        left -= 1;
+        page.bytes(&five);
     }
-    place
 }
 
-// Lays the body of a key where it is saved.
-fn put_body(t: &Table, saved: bool, key: Key, out: &mut [u8], at: usize) -> usize
-    requires { saved ≡ is_saved t.now key }
-    ensures { page result out.new ≡ put_all (page at out.old) (cond saved (map_pieces (map_in t.now key)) []) }
+// Lays the body of a key that is saved.
+fn put_body(t: &Table, key: Key, page: &mut Page)
+    requires { is_saved t.now key ≡ true }
+    ensures { Laid page.old page.new (map_pieces (map_in t.now key)) }
 {
-    if saved {
-        let row = lookup::row_of(t, key.source, key.destination, key.k);
-        if row.len() == 0 {
-            return at;
-        }
-        return put_row_body(row, out, at);
+    if let Some(row) = lookup::row_of(t, key) {
+        put_row_body(row, page);
     }
-    at
 }
 
-// How long the body of a key is; 0 where it is not saved.
-fn body_len(t: &Table, saved: bool, key: Key) -> usize
-    ensures { (result ≡ cond saved (length (body_of (map_in t.now key))) 0) × (result ≤ 1275) }
+// How long the body of a key is.
+fn body_len(t: &Table, key: Key) -> usize
+    ensures { (result ≡ length (body_of (map_in t.now key))) × (result ≤ 1275) }
 {
-    if saved {
-        let n = ask::count(t, key.source, key.destination, key.k);
-        return 5 * n as usize;
-    }
-    0
+    5 * ask::count(t, key) as usize
 }
 
 // ---- a row
@@ -124,48 +111,35 @@ fn body_len(t: &Table, saved: bool, key: Key) -> usize
 fn edition_byte(edition: u32) -> u8
     ensures { result ≡ edition_byte edition }
 {
-    if edition == EDITION_2004 {
-        return 1;
-    }
-    0
+    u8::from(edition == EDITION_2004)
 }
 
 // The bytes of a row, of which form 1 has all but the last.
 fn row_bytes(key: Key, edition: u32, at: usize, len: usize) -> [u8; 8]
     ensures { result ≡ full_row key edition at len }
 {
+    let [at_low, at_high, ..] = at.to_le_bytes();
+    let [len_low, len_high, ..] = len.to_le_bytes();
     [
         key.source,
         key.destination,
         key.k,
-        (at % 256) as u8,
-        (at / 256 % 256) as u8,
-        (len % 256) as u8,
-        (len / 256 % 256) as u8,
+        at_low,
+        at_high,
+        len_low,
+        len_high,
         edition_byte(edition),
     ]
 }
 
 // Lays the row of a key that is saved.
-fn put_row(
-    t: &Table,
-    form: u8,
-    saved: bool,
-    key: Key,
-    out: &mut [u8],
-    at: usize,
-    from: usize,
-    len: usize,
-) -> usize
-    ensures { page result out.new ≡ put_all (page at out.old) (cond saved (row_bytes form key (edition_in t.now key) from len ∷ []) []) }
+fn put_row(t: &Table, form: u8, key: Key, page: &mut Page, from: usize, len: usize)
+    ensures { Laid page.old page.new (row_bytes form key (edition_in t.now key) from len ∷ []) }
 {
-    if saved {
-        let edition = lookup::edition_of(t, key.source, key.destination, key.k);
-        let row = row_bytes(key, edition, from, len);
-        let n = row_size(form);
-        return text::put_bytes(out, at, &row[..n]);
-    }
-    at
+    let edition = lookup::edition_of(t, key);
+    let row = row_bytes(key, edition, from, len);
+    let n = row_size(form);
+    page.bytes(&row[..n]);
 }
 
 // ---- which keys
@@ -174,57 +148,43 @@ fn put_row(
 fn is_saved(t: &Table, key: Key) -> bool
     ensures { result ≡ is_saved t.now key }
 {
-    let judged = ask::judge(t, key.source, key.destination, key.k);
+    let judged = ask::judge(t, key);
     let judgement = judged.judgement;
     let number = answers::number_of(judgement);
     (judged.number == 0) & (number == 0)
 }
 
-fn bit(b: bool) -> u8
-    ensures { (result ≡ cond b 1 0) × (result ≤ 1) }
-{
-    if b { 1 } else { 0 }
-}
-
-// Which of the keys of a walk are saved, how many they are, and how long their bodies are together.
+// The keys that are saved, rising: so many of the first. And how long their bodies are together.
+// Kept: an array and how many are filled, as there is no heap here and 16 rows hold no more than 16.
 #[derive(Clone, Copy)]
 struct Chosen {
-    marks: [u8; ROWS],
+    keys: [Key; ROWS],
     count: u8,
     bodies: usize,
 }
 
+// Judges each held key once.
 fn choose(t: &Table) -> Chosen
-    ensures { (result.marks ≡ marks_of t.now) × (result.count ≡ length (saved_keys t.now))
-        × (result.bodies ≡ length (bodies_of (map_in t.now) (saved_keys t.now))) × (result.bodies ≤ 20400) }
+    ensures { (take result.count result.keys ≡ saved_keys t.now) × (result.count ≡ length (saved_keys t.now))
+        × (result.bodies ≡ length (bodies_of (map_in t.now) (saved_keys t.now))) × (result.count ≤ 16) × (result.bodies ≤ 20400) }
 {
-    let mut marks = [0u8; ROWS];
+    let none = Key {
+        source: 0,
+        destination: 0,
+        k: 0,
+    };
+    let mut keys = [none; ROWS];
     let mut count = 0;
     let mut bodies = 0;
-    let mut next = lookup::first_key(t);
-    let mut i = 0;
-    while i < ROWS {
-        match next {
-            Next::Found(key) => {
-                let saved = is_saved(t, key);
-                let mark = bit(saved);
-                marks[i] = mark;
-                count += mark;
-                bodies += body_len(t, saved, key);
-                next = lookup::next_key(t, key.source, key.destination, key.k);
-            }
-            Next::NoMore => {
-                return Chosen {
-                    marks,
-                    count,
-                    bodies,
-                }
-            }
+    for key in lookup::keys(t) {
+        if is_saved(t, key) {
+            keys[count as usize] = key;
+            count += 1;
+            bodies += body_len(t, key);
         }
-        i += 1;
     }
     Chosen {
-        marks,
+        keys,
         count,
         bodies,
     }
@@ -232,70 +192,42 @@ fn choose(t: &Table) -> Chosen
 
 // ---- the image
 
-// Lays the rows; the first body begins at `from`.
-fn put_rows(
-    t: &Table,
-    form: u8,
-    marks: &[u8; ROWS],
-    out: &mut [u8],
-    at: usize,
-    from: usize,
-) -> usize
-    requires { (from ≤ 2042) × (marks.now ≡ marks_of t.now) }
-    ensures { page result out.new
-        ≡ put_all (page at out.old) (row_pieces form (edition_in t.now) (map_in t.now) from (saved_keys t.now)) }
+// Lays the rows of the keys that are saved; the first body begins at `from`.
+fn put_rows(t: &Table, form: u8, keys: &[Key], page: &mut Page, from: usize)
+    requires { (from ≤ 2042) × (length keys.now ≤ 16) }
+    ensures { Laid page.old page.new (row_pieces form (edition_in t.now) (map_in t.now) from keys.now) }
 {
-    let mut place = at;
     let mut body = from;
-    let mut next = lookup::first_key(t);
-    let mut i = 0;
-    while i < ROWS {
-        match next {
-            Next::Found(key) => {
-                let saved = marks[i] == 1;
-                let len = body_len(t, saved, key);
-                place = put_row(t, form, saved, key, out, place, body, len);
-                body += len;
-                next = lookup::next_key(t, key.source, key.destination, key.k);
-            }
-            Next::NoMore => return place,
-        }
-        i += 1;
+    for key in keys {
+        let len = body_len(t, *key);
+        put_row(t, form, *key, page, body, len);
+        body += len;
     }
-    place
 }
 
-// Lays the bodies.
-fn put_bodies(t: &Table, marks: &[u8; ROWS], out: &mut [u8], at: usize) -> usize
-    requires { marks.now ≡ marks_of t.now }
-    ensures { page result out.new ≡ put_all (page at out.old) (bodies_pieces (map_in t.now) (saved_keys t.now)) }
+// Lays their bodies.
+fn put_bodies(t: &Table, keys: &[Key], page: &mut Page)
+    requires { keys.now ≡ saved_keys t.now }
+    ensures { Laid page.old page.new (bodies_pieces (map_in t.now) keys.now) }
 {
-    let mut place = at;
-    let mut next = lookup::first_key(t);
-    let mut i = 0;
-    while i < ROWS {
-        match next {
-            Next::Found(key) => {
-                place = put_body(t, marks[i] == 1, key, out, place);
-                next = lookup::next_key(t, key.source, key.destination, key.k);
-            }
-            Next::NoMore => return place,
-        }
-        i += 1;
+    for key in keys {
+        put_body(t, *key, page);
     }
-    place
 }
 
 // Lays the whole image.
-fn put_image(t: &Table, form: u8, marks: &[u8; ROWS], count: u8, out: &mut [u8]) -> usize
-    requires { (marks.now ≡ marks_of t.now) × (count ≡ length (saved_keys t.now)) }
+fn put_image(t: &Table, form: u8, keys: &[Key], out: &mut [u8]) -> usize
+    requires { (keys.now ≡ saved_keys t.now) × (length keys.now ≤ 16) }
     ensures { page result out.new
         ≡ put_all (page 0 out.old) (image_pieces form (edition_in t.now) (map_in t.now) (saved_keys t.now)) }
 {
+    let count = keys.len() as u8;
     let first = [form, count];
-    let at = text::put_bytes(out, 0, &first);
-    let at = put_rows(t, form, marks, out, at, behind(form, count));
-    put_bodies(t, marks, out, at)
+    let mut page = Page::new(out, 0);
+    page.bytes(&first);
+    put_rows(t, form, keys, &mut page, behind(form, count));
+    put_bodies(t, keys, &mut page);
+    page.at()
 }
 
 // ---- the calls
@@ -314,12 +246,11 @@ pub fn lay(t: &Table, form: u8, out: &mut [u8]) -> usize
     ensures { (result ≡ length (image_in form t.now)) × (out.new ≡ laid out.old 0 (image_in form t.now)) }
 {
     let chosen = choose(t);
-    let marks = chosen.marks;
     let n = behind(form, chosen.count) + chosen.bodies;
     if out.len() < n {
         return n;
     }
-    put_image(t, form, &marks, chosen.count, out)
+    put_image(t, form, &chosen.keys[..chosen.count as usize], out)
 }
 
 // Saves a table: 13, and nothing is written, where the buffer is too short for its image; else 0, and the bytes past the image keep what they held.

@@ -7,8 +7,9 @@
 
 use feeding::Tally;
 use keyrow::POSITIONS;
-use lookup::{Next, ROWS, Table, WORDS};
+use lookup::{Table, WORDS};
 use message::Key;
+use reading::Flow;
 use std::io::Result;
 use std::process::ExitCode;
 use std::rt::Clock;
@@ -18,24 +19,13 @@ fn transport_of(t: &Table, key: Key, n: u8) -> u64 {
     let mut spns = [0u32; POSITIONS];
     let mut starts = [0u32; POSITIONS];
     let mut widths = [0u32; POSITIONS];
-    let map = open::open(
-        t,
-        key.source,
-        key.destination,
-        key.k,
-        &mut spns,
-        &mut starts,
-        &mut widths,
-    );
-    if map.transport & (0 < n) {
-        return 1;
-    }
-    0
+    let map = open::open(t, key, &mut spns, &mut starts, &mut widths);
+    u64::from(map.transport & (0 < n))
 }
 
 // The line of a position, where something stands there. An error says why it was not written.
 fn print_position<R: Print>(rt: &R, t: &Table, key: Key, position: u8) -> Result<()> {
-    let p = ask::parameter_at(t, key.source, key.destination, key.k, position);
+    let p = ask::parameter_at(t, key, position);
     let a = p.answer;
     if a.number != 0 { // 18: nothing stands there
         return Ok(());
@@ -54,16 +44,16 @@ fn print_position<R: Print>(rt: &R, t: &Table, key: Key, position: u8) -> Result
 
 fn print_positions<R: Print>(rt: &R, t: &Table, key: Key, n: u8) -> Result<()> {
     let mut all = Ok(());
-    for before in 0..n {
-        all = all.and(print_position(rt, t, key, before + 1));
+    for position in 1..=n {
+        all = all.and(print_position(rt, t, key, position));
     }
     all
 }
 
 fn print_key<R: Print>(rt: &R, t: &Table, key: Key) -> Result<()> {
-    let a = ask::judge(t, key.source, key.destination, key.k);
+    let a = ask::judge(t, key);
     let j = a.judgement;
-    let n = ask::count(t, key.source, key.destination, key.k);
+    let n = ask::count(t, key);
     let first = lines::line(
         rt,
         b"key",
@@ -75,24 +65,17 @@ fn print_key<R: Print>(rt: &R, t: &Table, key: Key) -> Result<()> {
             answers::position_of(j) as u64,
             n as u64,
             transport_of(t, key, n),
-            lookup::edition_of(t, key.source, key.destination, key.k) as u64,
+            lookup::edition_of(t, key) as u64,
         ],
     );
     first.and(print_positions(rt, t, key, n))
 }
 
-// The held keys; 16 rows hold no more than 16.
+// The held keys.
 fn print_keys<R: Print>(rt: &R, t: &Table) -> Result<()> {
     let mut all = Ok(());
-    let mut next = lookup::first_key(t);
-    for _ in 0..ROWS {
-        match next {
-            Next::Found(key) => {
-                all = all.and(print_key(rt, t, key));
-                next = lookup::next_key(t, key.source, key.destination, key.k);
-            }
-            Next::NoMore => return all,
-        }
+    for key in lookup::keys(t) {
+        all = all.and(print_key(rt, t, key));
     }
     all
 }
@@ -128,7 +111,7 @@ fn of_log<R: Input + Clock + Print + Eprint>(rt: &R, t: &mut Table) -> ExitCode 
         b"shelf: reading stopped, and only what came before is shown",
     );
     let tally = log.tally;
-    shown(rt, t, tally, log.whole)
+    shown(rt, t, tally, log.flow != Flow::Failed)
 }
 
 // Status 0 where the image was undamaged and every line written.
@@ -152,7 +135,7 @@ fn of_image<R: Input + Clock + Print + Eprint>(rt: &R, t: &mut Table) -> ExitCod
         b"shelf: reading stopped, and nothing is shown",
     );
     let n = image.n;
-    if !image.whole {
+    if image.flow == Flow::Failed {
         return reading::done(false);
     }
     show(rt, t, &buffer[..n])

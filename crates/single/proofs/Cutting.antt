@@ -3,17 +3,17 @@ use mathlib.Core.Path.{◌≡◌, sym, ap, ap₂, ◌∙◌}
 use mathlib.Core.Bool.{true, false, ◌&&◌, and-eq-true_iff}
 use mathlib.Core.List.{List, ◌++◌}
 use Prim.Native.Nat.{ℕ, ◌+◌, ◌-◌, ◌*◌, ◌/◌, ◌%◌, ◌^◌, ◌≤◌, ◌<◌}
-use native.Mathlib.Nat.{mod-eq_of_lt, mod-lt, lt_of_lt_of_le}
+use native.Mathlib.Nat.{mod-eq_of_lt, lt_of_lt_of_le}
 use native.Mathlib.Omega.{arith}
 use native.Mathlib.Decide.{dec_lt}
-use lib.Pow.{pow_pos, pow_mono}
+use lib.Pow.{pow_mono}
 use lib.ListN.{length, get_or, drop}
 use lib.Dec.{leb, ltb}
 use borrow.Author.Tests.{not-true, not-false, le-leb, leb-true, lt-ltb, le-ltb, ltb-true}
 use Rattle.words.proofs.Lowest.{any-each}
 use Rattle.words.proofs.Tests.{test, never, same_test}
 use Rattle.places.specs.Place.{odd, skipped, place, end_of}
-use Rattle.places.proofs.Place.{whole, left, by_runs, low_run, left-run, one-run, end_runs, even_skips}
+use Rattle.places.proofs.Place.{whole, left, by_runs, low_run, left-run, left-place, one-run, end_runs, even_skips, odd_skips}
 use Rattle.bits.specs.Bits.{bit, bit_at, from_bits, lies_in, read_number, number_in, run_at}
 use Rattle.bits.proofs.Bits.{bit_lt, bit_shr, bit_at_lt, from_lt, bit-from, from-same, from_of, from-add}
 use Rattle.bits.proofs.Number.{lies, lies_in_lem}
@@ -23,10 +23,6 @@ use Rattle.single.specs.Single.{run_in, number_of, lies_there, cut_from, all_lie
 
 run-bits : (word from n : ℕ) → run_in word from n ≡ from_bits (λ i. bit word (from + i)) n
 run-bits word from n = sym (from_of (word / 2 ^ from) n) ∙ from-same _ _ n (λ i l. bit_shr word from i)
-
--- a run has no more bits than it is asked for
-pub run-most : (word from n m : ℕ) → n ≤ m → run_in word from n < 2 ^ m
-run-most word from n m l = lt_of_lt_of_le (mod-lt (word / 2 ^ from) (pow_pos n)) (pow_mono l)
 
 -- where nothing is skipped a number is one run
 pub one-run-is : (word s w : ℕ) → skipped w ≡ 0 → run_in word s w ≡ number_of word s w
@@ -60,6 +56,11 @@ two_runs_are word s w y z h e f = (ap (λ (x : ℕ). y + x) (mod-eq_of_lt part) 
 
     part : z * 2 ^ whole w < 2 ^ 32
     part = omega (arith, sum, small)
+
+-- where its two runs stand, of one that lies in eight bytes: the second begins at l
+pub odd_lies : (s w l : ℕ) → odd w ≡ true → end_of s w ≤ 64 → l ≡ place s w (whole w) → (l ≡ left s w) × (s + whole w ≤ l) × (l < 64) × (l + (w - whole w) ≤ 64) × (whole w < w)
+odd_lies s w l o h e =
+    let at : l ≡ left s w = e ∙ left-place s w in (at, omega (arith, at), omega (arith, at, end_runs s w, odd_skips w o), omega (arith, at, end_runs s w), omega (arith, odd_skips w o))
 
 -- ---- where it does not lie in eight bytes, or has no bit, it is 0
 

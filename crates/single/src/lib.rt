@@ -14,22 +14,7 @@ const BYTES: usize = 8;
 pub fn word_of(bytes: &[u8; BYTES]) -> u64
     ensures { (result ≡ run_at bytes.now 0 64) × (length bytes.now ≡ 8) }
 {
-    let bytes = &bytes[..];
-    let mut sum = 0;
-    let mut i = bytes.len();
-    while 0 < i {
-        i -= 1;
-        sum = sum * 256 + bytes[i] as u64;
-    }
-    sum
-}
-
-// A number of n ones.
-fn ones(n: u32) -> u64
-    requires { n < 64 }
-    ensures { result ≡ 2 ^ n - 1 }
-{
-    (1 << n) - 1
+    u64::from_le_bytes(*bytes)
 }
 
 // The n bits of a number from `from` on, as a number.
@@ -37,10 +22,11 @@ fn run_in(word: u64, from: u32, n: u32) -> u32
     requires { (from < 64) × (n ≤ 32) }
     ensures { result ≡ run_in word from n }
 {
-    ((word >> from) & ones(n)) as u32
+    ((word >> from) & bits::ones(n)) as u32
 }
 
 // A number of an odd width: the run of its whole bytes, and above it that of the bits left over.
+// Kept: beside bits::fetch_odd, which takes the same two runs out of bytes. One function of both, and one of with_odd and bits::lay_odd, would take the run as a closure with what that requires, for four lines.
 fn cut_odd(word: u64, start: u32, width: u32) -> u32
     requires { (odd width ≡ true) × (width ≤ 32) × (end_of start width ≤ 64) }
     ensures { result ≡ number_of word start width }
@@ -63,6 +49,7 @@ pub fn lies(start: u32, width: u32) -> bool
 }
 
 // The same, without a jump and in 32 bits: for a loop over a map, which is then made of a few steps for four parameters at once, and where nobody can foresee which are narrow.
+// Kept: two bodies of one promise, each the faster one where it is asked (docs/BENCH.md has both, measured).
 fn lies_too(start: u32, width: u32) -> bool
     ensures { result ≡ lies_there start width }
 {
@@ -85,6 +72,7 @@ fn cut(word: u64, start: u32, width: u32) -> u32
 }
 
 // The number of a parameter, out of the eight bytes as one number; 0 where it does not lie in them.
+// Kept: 0 and no None: cut_from, of which this promises to be, has a number on every input, and a hire counts that number.
 pub fn number_in(word: u64, start: u32, width: u32) -> u32
     ensures { result ≡ cut_from word start width }
 {
@@ -102,10 +90,8 @@ fn all_lie(starts: &[u32], widths: &[u32]) -> bool
     ensures { result ≡ all_lie starts.now widths.now }
 {
     let mut outside = false;
-    let mut i = 0;
-    while i < starts.len() {
+    for i in 0..starts.len() {
         outside |= !lies_too(starts[i], widths[i]);
-        i += 1;
     }
     !outside
 }
@@ -115,15 +101,14 @@ fn cut_all(word: u64, starts: &[u32], widths: &[u32], room: &mut [u32])
     requires { (length starts.now ≤ length widths.now) × (length room.old ≡ length starts.now) × (all_lie starts.now widths.now ≡ true) }
     ensures { room.new ≡ numbers_of word starts.now widths.now }
 {
-    let mut i = 0;
-    while i < starts.len() {
+    for i in 0..starts.len() {
         room[i] = cut(word, starts[i], widths[i]);
-        i += 1;
     }
 }
 
 // The numbers of a map, out of the eight bytes as one number, over the start of `room`: all of them, or none and the room as it was, where one does not lie in the eight bytes or
 // there are fewer widths or places than starts.
+// Kept: a bool and no Option: there is no value to hand over, and where it is false the room is as it was.
 pub fn numbers_in(word: u64, starts: &[u32], widths: &[u32], room: &mut [u32]) -> bool
     ensures { (result ≡ taking starts.now widths.now (length room.old))
         × (room.new ≡ taken word starts.now widths.now room.old) }
@@ -141,21 +126,14 @@ pub fn numbers_in(word: u64, starts: &[u32], widths: &[u32], room: &mut [u32]) -
 
 // ---- and back
 
-// The number with the bits that the mask has taken from `bits`.
-fn merge(word: u64, mask: u64, bits: u64) -> u64
-    ensures { (p : ℕ) → p < 64 → bit result p ≡ cond (eqb (bit mask p) 1) (bit bits p) (bit word p) }
-{
-    (word & (mask ^ 0xffff_ffff_ffff_ffff)) | (bits & mask)
-}
-
 // The number with the low n bits of value laid at its bits from `from` on.
 fn with_run(word: u64, from: u32, n: u32, value: u32) -> u64
     requires { (from < 64) × (n ≤ 32) × (from + n ≤ 64) }
     ensures { result ≡ laid_at (λ i. from + i) n word value }
 {
-    let mask = ones(n) << from;
+    let mask = bits::ones(n) << from;
     let bits = (value as u64) << from;
-    merge(word, mask, bits)
+    bits::merge(word, mask, bits)
 }
 
 // The number with one of an odd width laid on it: the run of its whole bytes, and that of the bits left over, above those it skips.

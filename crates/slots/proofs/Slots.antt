@@ -2,14 +2,13 @@
 use Prim.Native.Nat.{ℕ, zero, suc, ◌≤◌, ◌<◌}
 use mathlib.Core.Path.{◌≡◌, refl, sym, ap, ◌∙◌}
 use mathlib.Core.Bool.{Bool, true, false, ◌&&◌}
-use mathlib.Core.List.{List, [], ◌∷◌, map}
+use mathlib.Core.List.{List, [], ◌∷◌}
 use native.Mathlib.Nat.{le_of_suc-le-suc, not-suc-le-zero}
 use native.Mathlib.Omega.{arith}
 use lib.Dec.{T, leb, ltb, leb→le, ltb→lt}
-use lib.ListN.{length, get_or, length-map}
-use Rattle.words.proofs.Lists.{in_range}
+use lib.ListN.{length, get_or}
 use Rattle.slots.specs.declared.Slot.{Slot}
-use Rattle.slots.specs.Slots.{slot, slot_count, slots, column, slot_at, within, ruled, pair, pairs}
+use Rattle.slots.specs.Slots.{slot, slot_count, slots, column, slot_at, within, ruled}
 
 -- a number for each of the dictionary's 140 rows
 pub column-size : length column ≡ 140
@@ -19,10 +18,6 @@ column-size = refl
 pub slots-size : length slots ≡ slot_count
 unfolding slots
 slots-size = refl
-
-pub pairs-size : length pairs ≡ slot_count
-unfolding pairs
-pairs-size = length-map slots pair ∙ slots-size
 
 column-within : T (within column)
 unfolding within column
@@ -76,30 +71,13 @@ none_at (x ∷ xs) d (suc i) l = none_at xs d i (le_of_suc-le-suc l)
 pub no_row : (i : ℕ) → 140 ≤ i → slot_at i ≡ slot 0 0
 no_row i l = rw (none_at column slot_count i (rw column-size l)) (none_at slots (slot 0 0) slot_count (rw slots-size (omega arith)))
 
--- a pair of the code's table has the two numbers of its slot
-at : (ss : List Slot) (i : ℕ) → (get_or (get_or (map pair ss) i []) 0 0 ≡ (get_or ss i (slot 0 0)).resolution) × (get_or (get_or (map pair ss) i []) 1 0 ≡ (get_or ss i (slot 0 0)).below)
-at [] i = (refl, refl)
-at (s ∷ ss) zero = (refl, refl)
-at (s ∷ ss) (suc i) = at ss i
-
-pub pairs-at : (i : ℕ) → (get_or (get_or pairs i []) 0 0 ≡ (get_or slots i (slot 0 0)).resolution) × (get_or (get_or pairs i []) 1 0 ≡ (get_or slots i (slot 0 0)).below)
-unfolding pairs
-pairs-at i = at slots i
-
--- the two tables as they are lent
-module _ (ps : List (List ℕ)) (ns : List ℕ) (p : ps ≡ pairs) (n : ns ≡ column) where
+-- the column as it is lent
+module _ (ns : List ℕ) (n : ns ≡ column) where
   long : length ns ≡ 140
   long = ap length n ∙ column-size
 
-  -- a row's number, whatever stands for a row that is not there
-  number : (i : ℕ) → i < length ns → get_or ns i 0 ≡ get_or column i slot_count
-  number i l = in_range ns i 0 slot_count l ∙ ap (λ (x : List ℕ). get_or x i slot_count) n
-
-  pub lent_in : (i : ℕ) → i < length ns → (get_or ns i 0 < length ps) × (length ps ≡ slot_count)
-  lent_in i l = let s = ap length p ∙ pairs-size in (omega (arith, number i l, column-at i (omega (arith, long)), s), s)
-
-  pub lent-slot : (i : ℕ) → i < length ns → slot (get_or (get_or ps (get_or ns i 0) []) 0 0) (get_or (get_or ps (get_or ns i 0) []) 1 0) ≡ slot_at i
-  lent-slot i l = rw (number i l, p, (pairs-at (get_or column i slot_count)).0, (pairs-at (get_or column i slot_count)).1)
+  pub lent_in : (i : ℕ) → i < length ns → get_or ns i slot_count < slot_count
+  lent_in i l = rw n (column-at i (omega (arith, long)))
 
   pub lent_none : (i : ℕ) → length ns ≤ i → slot 0 0 ≡ slot_at i
   lent_none i l = sym (no_row i (omega (arith, long)))

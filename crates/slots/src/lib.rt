@@ -1,9 +1,9 @@
-// What a count of a number stands for: resolution and offset of each row of the dictionary, in thousandths of 002's unit (02, Req 05). The rows share a few pairs, so
+// What a count of a number stands for: resolution and offset of each row of the dictionary, in thousandths of 002's unit (02, Req 05). The rows share a few slots, so
 // a row has the number of its pair. tools/unitscheck compares both tables with docs/UNITS.md and 002's text.
 #![tactic(auto)]
 
 ghost use Rattle.std.specs.Prelude.{◌≡◌};
-ghost use Rattle.slots.specs.Slots.{slot, column, pairs, slot_at};
+ghost use Rattle.slots.specs.Slots.{slots, column, slot_at};
 
 // A resolution, and how far its offset lies below 0: no offset of 002 is above it.
 #[derive(Clone, Copy)]
@@ -12,24 +12,25 @@ pub struct Slot {
     pub below: u32,
 }
 
-// Pairs of resolution and offset.
-const SLOTS: [[u32; 2]; 12] = [
-    [125, 0],
-    [10000, 0],
-    [1000, 0],
-    [400, 0],
-    [1000, 40000],
-    [1000, 125000],
-    [50000, 0],
-    [100, 0],
-    [100, 12500],
-    [2000, 0],
-    [500, 0],
-    [5000, 0],
+// Resolutions with their offsets.
+#[rattlefmt::skip]
+static SLOTS: [Slot; 12] = [
+    Slot { resolution: 125, below: 0 },
+    Slot { resolution: 10000, below: 0 },
+    Slot { resolution: 1000, below: 0 },
+    Slot { resolution: 400, below: 0 },
+    Slot { resolution: 1000, below: 40000 },
+    Slot { resolution: 1000, below: 125000 },
+    Slot { resolution: 50000, below: 0 },
+    Slot { resolution: 100, below: 0 },
+    Slot { resolution: 100, below: 12500 },
+    Slot { resolution: 2000, below: 0 },
+    Slot { resolution: 500, below: 0 },
+    Slot { resolution: 5000, below: 0 },
 ];
 
-// The number of the pair of each row of the dictionary, by the row's number.
-const COLUMN: [u8; 140] = [
+// The number of the slot of each row of the dictionary, by the row's number.
+static COLUMN: [u8; 140] = [
     0, // 1488 Thresher Speed, 0.125 rpm/bit
     1, // 1489 Cleaning Fan Speed, 10 rpm/bit
     2, // 1490 Header Backshaft Speed, 1 rpm/bit
@@ -172,43 +173,32 @@ const COLUMN: [u8; 140] = [
     2, // 3333 Feederhouse Height, 1 mm/bit
 ];
 
-// The pairs.
-fn all_slots() -> [[u32; 2]; 12]
-    ensures { result ≡ pairs }
+// The slots, where they lie.
+#[tactic(auto, unfolding(crate::specs::Slots::slots))]
+fn all_slots() -> &'static [Slot; 12]
+    ensures { result.now ≡ slots }
 {
-    SLOTS
+    &SLOTS
 }
 
 // The numbers by row.
-fn all_rows() -> [u8; 140]
-    ensures { result ≡ column }
+#[tactic(auto, unfolding(crate::specs::Slots::column))]
+fn all_rows() -> &'static [u8; 140]
+    ensures { result.now ≡ column }
 {
-    COLUMN
-}
-
-// The pair with a number of the column.
-fn slot_in(slots: &[[u32; 2]], rows: &[u8], row: usize) -> Slot
-    requires { (slots.now ≡ pairs) × (rows.now ≡ column) }
-    ensures { result ≡ slot_at row }
-{
-    if rows.len() <= row {
-        return Slot {
-            resolution: 0,
-            below: 0,
-        };
-    }
-    let pair = slots[rows[row] as usize];
-    Slot {
-        resolution: pair[0],
-        below: pair[1],
-    }
+    &COLUMN
 }
 
 // Resolution and offset of a row of the dictionary; zeros where there is no such row.
+// Kept: zeros, and no Option: who asks has a row of the dictionary, and would see to a None that never comes.
 pub fn slot_of(row: usize) -> Slot
     ensures { result ≡ slot_at row }
 {
-    let slots = all_slots();
-    let rows = all_rows();
-    slot_in(&slots, &rows, row)
+    match all_rows().get(row) {
+        Some(number) => all_slots()[*number as usize],
+        None => Slot {
+            resolution: 0,
+            below: 0,
+        },
+    }
 }

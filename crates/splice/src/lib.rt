@@ -1,26 +1,15 @@
 // Bytes laid into a lent buffer, from a given byte on and nowhere else.
 #![tactic(auto)]
 
-ghost use Rattle.std.specs.Prelude.{◌≡◌, ◌++◌, ◌+◌, min};
+ghost use Rattle.std.specs.Prelude.{◌≡◌, ◌++◌};
 ghost use Rattle.splice.specs.Splice.{covered, fits, laid};
 
-// How far two lengths both reach.
-pub fn shorter(a: usize, b: usize) -> usize
-    ensures { result ≡ min a b }
-{
-    if a < b { a } else { b }
-}
-
-// Copies src over the start of dst, as far as both reach. The loop has one way out, so that a compiler copies many bytes at once.
+// Copies src over the start of dst, as far as both reach.
 pub fn copy_in(dst: &mut [u8], src: &[u8])
     ensures { dst.new ≡ covered dst.old src.now }
 {
-    let n = shorter(dst.len(), src.len());
-    let mut i = 0;
-    while i < n {
-        dst[i] = src[i];
-        i += 1;
-    }
+    let n = dst.len().min(src.len());
+    dst[..n].copy_from_slice(&src[..n]);
 }
 
 // Copies one list and then another over the start of dst, as far as it reaches.
@@ -29,10 +18,9 @@ pub fn join_in(dst: &mut [u8], first: &[u8], second: &[u8])
 {
     copy_in(dst, first);
     let n = first.len();
-    if dst.len() <= n {
-        return;
+    if n < dst.len() {
+        copy_in(&mut dst[n..], second);
     }
-    copy_in(&mut dst[n..], second);
 }
 
 // Copies src into dst from `at` on, where it has room; else nothing changes.
@@ -40,13 +28,10 @@ pub fn copy_at(dst: &mut [u8], at: usize, src: &[u8]) -> bool
     ensures value { result ≡ fits dst.old at src.now }
     ensures dst_after { dst.new ≡ laid dst.old at src.now }
 {
-    if dst.len() < at {
-        return false;
-    }
     let end = src.len();
-    if dst.len() - at < end {
+    if (dst.len() < at) || (dst.len() - at < end) {
         return false;
     }
-    copy_in(&mut dst[at..at + end], src);
+    dst[at..at + end].copy_from_slice(src);
     true
 }

@@ -3,6 +3,25 @@
 -- Assumes nothing.
 use Rattle.std.specs.Prelude.{ℕ, ◌/◌, ◌^◌, min, cond, List, ◌++◌, eqb, leb, length, get_or, drop}
 use Rattle.words.specs.Lists.{tabulate}
+use Rattle.states.specs.declared.State.{State}
+use Rattle.states.specs.declared.State.TheVariants.{Valid, Reserved, Error, NotAvailable}
+use Rattle.states.specs.declared.Kind.{Kind}
+use Rattle.states.specs.declared.Kind.TheVariants.{Unknown, TwoBits, Byte, TwoBytes, FourBytes, NoRow}
+
+-- the number of a state, and of a kind, as the code has them
+abbrev pub state_number : State → ℕ
+state_number Valid = 0
+state_number Reserved = 1
+state_number Error = 2
+state_number NotAvailable = 3
+
+abbrev pub kind_number : Kind → ℕ
+kind_number Unknown = 0
+kind_number TwoBits = 1
+kind_number Byte = 2
+kind_number TwoBytes = 3
+kind_number FourBytes = 4
+kind_number NoRow = 5
 
 -- "for one byte 0 to 250 valid, 251 to 253 reserved, counting its indicator 251 there, 254 error, 255 not available"
 unfoldable pub by_byte : ℕ → ℕ

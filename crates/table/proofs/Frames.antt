@@ -6,22 +6,24 @@ use native.Mathlib.Omega.{arith}
 use Rattle.answers.specs.Answers.{outcome, plain}
 use Rattle.frame.specs.Frame.{fields_of}
 use Rattle.message.specs.declared.Message.{Message}
-use Rattle.message.specs.declared.Decoded.TheVariants.{Refused, Taken}
+use Rattle.std.specs.Prelude.{Ok, Err}
+use Rattle.message.specs.declared.Fault.{Fault}
+use Rattle.message.specs.Fault.{fault_number}
 use Rattle.message.specs.Message.{Heard, heard_of, heard, wire_of}
 use Rattle.message.proofs.WellFormed.{WellFormed, heard_exactly, heard-message}
 use Rattle.table.specs.Layout.{Storable}
 use Rattle.table.specs.Learn.{learn_message, taught, learnt}
 
 module _ (t : List ℕ) (id len : ℕ) (d : List ℕ) where
-  pub refused : (n : ℕ) → heard_of (Refused n) ≡ heard id len d → outcome (plain n) t ≡ learnt t id len d
+  pub refused : (x : Fault) → heard_of (Err x) ≡ heard id len d → outcome (plain (fault_number x)) t ≡ learnt t id len d
   unfolding learnt
-  refused n e = ap (λ (h : Heard). taught t h.number h.message) e
+  refused x e = ap (λ (h : Heard). taught t h.number h.message) e
 
-  pub taken : (m : Message) → heard_of (Taken m) ≡ heard id len d → learn_message t m ≡ learnt t id len d
+  pub taken : (m : Message) → heard_of (Ok m) ≡ heard id len d → learn_message t m ≡ learnt t id len d
   unfolding learnt
   taken m e = ap (λ (h : Heard). taught t h.number h.message) e
 
-module _ (id len : ℕ) (d : List ℕ) (m : Message) (e : heard_of (Taken m) ≡ heard id len d) where
+module _ (id len : ℕ) (d : List ℕ) (m : Message) (e : heard_of (Ok m) ≡ heard id len d) where
   pub well : WellFormed id len (fields_of id) (wire_of d)
   well = (heard_exactly id len d).0 (sym (ap (λ (h : Heard). h.number) e))
 

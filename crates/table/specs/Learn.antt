@@ -1,13 +1,15 @@
 -- What learning makes of the words, and what it answers: on any words.
 -- Assumes nothing.
-use Rattle.std.specs.Prelude.{ℕ, cond, List, ltb, replicate}
+use Rattle.std.specs.Prelude.{ℕ, cond, List, Result, Ok, Err, ltb, replicate}
 use Rattle.std.proofs.Math.Option.{Option, none, some}
-use Rattle.answers.specs.Answers.{Outcome, outcome, plain}
+use Rattle.answers.specs.Answers.{Said, Outcome, outcome, plain}
 use Rattle.message.specs.declared.Message.{Message}
 use Rattle.message.specs.Message.{heard}
 use Rattle.history.specs.History.{most_keys}
 use Rattle.keyrow.specs.Row.{key_number}
 use Rattle.keyrow.specs.Learn.{learn_row, new_row}
+use Rattle.table.specs.declared.Refusal.{Refusal}
+use Rattle.table.specs.declared.Refusal.TheVariants.{NoRoom, InConflict}
 use Rattle.table.specs.Layout.{put_row}
 use Rattle.lookup.specs.Layout.{table_words, row_of, slot_of, free_slot}
 
@@ -18,6 +20,15 @@ empty_table = replicate table_words 0
 -- the words with what became of row i
 abbrev pub in_row : List ℕ → ℕ → Outcome → Outcome
 in_row t i o = outcome o.answer (put_row t i o.memory)
+
+-- what the code's result says: 0, or the number of a refusal
+abbrev pub refusal_number : Refusal → ℕ
+refusal_number NoRoom = 9
+refusal_number InConflict = 10
+
+abbrev pub learned_message : Result (Unit {0}) Refusal → Said
+learned_message (Ok done) = plain 0
+learned_message (Err why) = plain (refusal_number why)
 
 -- a well-formed message: into its key's row; a new key into the lowest free row; "key new and 16 keys held" is 9
 unfoldable pub learn_message : List ℕ → Message → Outcome

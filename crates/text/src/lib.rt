@@ -5,10 +5,12 @@
 ghost use Rattle.std.specs.Prelude.{◌≡◌, [], ◌∷◌, ◌≤◌, drop};
 ghost use Rattle.answers.specs.Answers.{outcome, in_numbers};
 ghost use Rattle.text.specs.Text.{decimal_of, page, put, put_all, handed};
+ghost use Rattle.text.specs.Page.{held, Laid};
 
 use answers::Answer;
 
 // The digits of a number: the bytes from `from` on.
+// Kept: an array and where they begin, as there is no heap here.
 #[derive(Clone, Copy)]
 struct Digits {
     bytes: [u8; 20],
@@ -16,6 +18,7 @@ struct Digits {
 }
 
 // The decimal digits of a number, most significant first, at the end of 20 bytes.
+// Kept: digit by digit, since of a number that it writes into lent bytes std promises no byte, and a crate that does would be one more to trust.
 fn in_decimal(n: u64) -> Digits
     ensures { (drop result.from result.bytes ≡ decimal_of n) × (result.from ≤ 19) }
 {
@@ -58,6 +61,55 @@ pub fn put_number(out: &mut [u8], at: usize, n: u64, behind: &[u8]) -> usize
 {
     let at = put_decimal(out, at, n);
     put_bytes(out, at, behind)
+}
+
+// ---- a page
+
+// A lent page, and where its next piece goes.
+#[derive(Drop)]
+pub struct Page<'a> {
+    out: &'a mut [u8],
+    at: usize,
+}
+
+impl<'a> Page<'a> {
+    // A page whose next piece goes to `at`.
+    pub fn new(out: &'a mut [u8], at: usize) -> Page<'a>
+        ensures same { result.out.ghost_name ≡ out.entry.ghost_name }
+        ensures holds { held result ≡ page at out.old }
+    {
+        Page { out, at }
+    }
+
+    // Where the next piece goes.
+    pub fn at(&self) -> usize
+        ensures { result ≡ self.now.at }
+    {
+        self.at
+    }
+
+    // Lays a piece; where there is no room, nothing is laid.
+    #[tactic(auto, unfolding(crate::specs::Text::put_all))]
+    pub fn bytes(&mut self, piece: &[u8])
+        ensures { Laid self.old self.new (piece.now ∷ []) }
+    {
+        self.at = put_bytes(self.out, self.at, piece);
+    }
+
+    // Lays a number in decimal.
+    #[tactic(auto, unfolding(crate::specs::Text::put_all))]
+    pub fn decimal(&mut self, n: u64)
+        ensures { Laid self.old self.new (decimal_of n ∷ []) }
+    {
+        self.at = put_decimal(self.out, self.at, n);
+    }
+
+    // Lays a number in decimal, and what stands behind it.
+    pub fn number(&mut self, n: u64, behind: &[u8])
+        ensures { Laid self.old self.new (decimal_of n ∷ behind.now ∷ []) }
+    {
+        self.at = put_number(self.out, self.at, n, behind);
+    }
 }
 
 // Lays a whole text over the start of `out`: 0 with its length, modulo 2^32, or 13 and nothing written where `out` is too short.

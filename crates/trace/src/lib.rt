@@ -1,9 +1,7 @@
-// The records of a trace (02, Req 09; docs/DECISIONS.md): 14 bytes each, a first byte that says what it is, and 13 more. And what a trace that comes in chunks needs: the bytes of a cut record,
-// carried from one chunk to the next.
+// The records of a trace (02, Req 09; docs/DECISIONS.md): 14 bytes each, a first byte that says what it is, and 13 more. What a trace that comes in chunks needs is in `record`, for records of any size.
 #![tactic(auto)]
 
-ghost use Rattle.std.specs.Prelude.{◌≡◌, ◌++◌, ◌≤◌};
-ghost use Rattle.record.specs.Sized.{held_by, padded_by};
+ghost use Rattle.std.specs.Prelude.{◌≡◌};
 ghost use Rattle.trace.specs.Entry.{entry_in};
 
 // The bytes of a record.
@@ -12,11 +10,11 @@ pub const SIZE: usize = 14;
 // What a record says: a frame with this identifier came in at a port; a slot of a port; a command of the fitter to a pair; or nothing of these.
 #[derive(Clone, Copy)]
 pub enum Entry {
-    Frame(u8, u32),
-    Slot(u8),
-    Add(u8, u8, u32),
-    Delete(u8, u8, u32),
-    Renew(u8, u8, u8),
+    Frame { port: u8, id: u32 },
+    Slot { port: u8 },
+    Add { from: u8, to: u8, pgn: u32 },
+    Delete { from: u8, to: u8, pgn: u32 },
+    Renew { from: u8, to: u8, mode: u8 },
     Other,
 }
 
@@ -37,45 +35,32 @@ pub fn read(s: &[u8]) -> Entry
     if s.len() < SIZE {
         return Entry::Other;
     }
-    let b = s[0];
-    if (1 <= b) & (b <= 4) {
-        let f = record::read(&s[1..14]);
-        return Entry::Frame(b, f.id);
-    }
-    if (129 <= b) & (b <= 132) {
-        return Entry::Slot(b - SLOT);
-    }
     let pgn = frame::number_of(frame::Three {
         first: s[3],
         second: s[4],
         third: s[5],
     });
-    if b == ADD {
-        return Entry::Add(s[1], s[2], pgn);
+    match s[0] {
+        b if (1 <= b) & (b <= 4) => {
+            let f = record::read(&s[1..14]);
+            Entry::Frame { port: b, id: f.id }
+        }
+        b if (129 <= b) & (b <= 132) => Entry::Slot { port: b - SLOT },
+        ADD => Entry::Add {
+            from: s[1],
+            to: s[2],
+            pgn,
+        },
+        DELETE => Entry::Delete {
+            from: s[1],
+            to: s[2],
+            pgn,
+        },
+        RENEW => Entry::Renew {
+            from: s[1],
+            to: s[2],
+            mode: s[3],
+        },
+        _ => Entry::Other,
     }
-    if b == DELETE {
-        return Entry::Delete(s[1], s[2], pgn);
-    }
-    if b == RENEW {
-        return Entry::Renew(s[1], s[2], s[3]);
-    }
-    Entry::Other
-}
-
-// ---- chunks
-
-// How many bytes are carried: 14 or more, as no cut record leaves, counts as 0.
-pub fn left_in(left: usize) -> usize
-    ensures { (result ≡ held_by 14 left) × (result ≤ 13) }
-{
-    if left < SIZE { left } else { 0 }
-}
-
-// 14 bytes: the carried ones and those behind them, as many as fit, and 0 in the rest.
-pub fn joined(carry: &[u8], more: &[u8]) -> [u8; SIZE]
-    ensures { result ≡ padded_by 14 (carry.now ++ more.now) }
-{
-    let mut b = [0u8; SIZE];
-    splice::join_in(&mut b, carry, more);
-    b
 }

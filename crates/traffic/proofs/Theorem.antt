@@ -23,8 +23,7 @@ use Rattle.counters.specs.Words.{counters_at}
 use Rattle.queue.specs.Queue.{leaver}
 use Rattle.queue.specs.Row.{word_of, how_many, Entered, enters_at, leaves_at}
 use Rattle.queue.proofs.Rows.{waiting-most}
-use Rattle.bridge.specs.Bridge.{Bridge, fresh_bridge, is_port, first_other, second_other, third_other, answer_to, Met, met_by, replied, counted_as, offered_to, offers, offered, Slotted, slotted_as, sent_from, slotted, stands, standing}
-use Rattle.bridge.specs.declared.Offered.TheVariants.{To, NoPort}
+use Rattle.bridge.specs.Bridge.{Bridge, fresh_bridge, is_port, first_other, second_other, third_other, To, NoPort, answer_to, Met, met_by, replied, counted_as, offered_to, offers, offered, Slotted, slotted_as, sent_from, slotted, stands, standing}
 use Rattle.bridge.proofs.Calls.{each_port}
 use Rattle.traffic.specs.Traffic.{Verdict, Refuses, Blocks, Passes, Event, Offer, Slot, Frame, priority_of, fate_of, waits, came_from, many_from, waiting, counters_of}
 use Rattle.traffic.specs.Runs.{Call, Arrives, Leaves, Order, state, after_call, run, verdict_of, filters_by, offer_to, heard, happened, met_as, words_after, words_by, Real, AllReal, becomes, slot_said}

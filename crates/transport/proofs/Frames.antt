@@ -15,18 +15,28 @@ use Rattle.message.specs.Message.{served_tests}
 use Rattle.session.specs.Session.{briefly}
 use Rattle.session.specs.Cut.{size_said, pgn_said}
 use Rattle.transport.specs.Rows.{Memory, row_with}
-use Rattle.transport.specs.Calls.{request_pgn, packet_pgn, holder_in, request_tests, place_for, open_row, opens, requested, received, noted, takes_at, takes, arrived}
+use native.Mathlib.Omega.{arith}
+use Rattle.transport.specs.Calls.{request_pgn, packet_pgn, holder_in, request_tests, place_for, open_row, opens, requested, received, noted, takes_at, takes, arrived, number_said}
+use Rattle.transport.specs.declared.Refusal.{Refusal}
+use Rattle.transport.specs.declared.Refusal.TheVariants.{NotToSend, Mismatched, AllTaken}
+use Rattle.std.specs.Prelude.{Err}
 use Rattle.transport.proofs.Tests.{refused_by, passed_by_lem, one_does, none_does}
 
--- the tests of a frame, by the fields that were cut out of its identifier
-faults_are : (pgn id len : ℕ) (f : Fields) → f ≡ fields_of id → (bad : ℕ) → bad ≡ first_number_of (served_tests pgn id len f) 0 → bad ≡ first_number_of (served_tests pgn id len (fields_of id)) 0
-faults_are pgn id len f split bad its = its ∙ ap (λ (g : Fields). first_number_of (served_tests pgn id len g) 0) split
-
--- whether one of them applies
+-- whether one of the tests of a frame applies
 abbrev Refused : ℕ → ℕ → ℕ → Fields → Bool → Type 0
 Refused pgn id len f b = b ≡ not (eqb (first_number_of (served_tests pgn id len f) 0) 0)
 
+-- the same by the fields that were cut out of its identifier
+by_fields : (pgn id len : ℕ) (f : Fields) → f ≡ fields_of id → (b : Bool) → Refused pgn id len f b → Refused pgn id len (fields_of id) b
+by_fields pgn id len f split b its = its ∙ ap (λ (g : Fields). not (eqb (first_number_of (served_tests pgn id len g) 0) 0)) split
+
 -- ---- a request to send
+
+-- a refusal has a number
+pub refused-some : (r : Refusal) → number_said (Err r) ≡ 0 → ⊥
+refused-some NotToSend e = absurd (omega (arith, e))
+refused-some Mismatched e = absurd (omega (arith, e))
+refused-some AllTaken e = absurd (omega (arith, e))
 
 -- the row of a holder that has one, or the lowest of nobody's
 module _ (heads : List ℕ) (holder i : ℕ) (its : i ≡ row_with heads holder) where
@@ -59,18 +69,18 @@ module _ (heads : List ℕ) (id len : ℕ) (d : List ℕ) (f : Fields) (split : 
   in_two = sym (then refuse (served_tests request_pgn id len (fields_of id)) (request_tests d) rest)
 
   -- 1, 2 or 3
-  pub frame_refused : b ≡ true → (bad : ℕ) → bad ≡ first_number_of (served_tests request_pgn id len f) 0 → (a : Said) → a ≡ plain bad → outcome a heads ≡ requested heads id len d
+  pub frame_refused : b ≡ true → (bad : ℕ) → bad ≡ first_number_of (served_tests request_pgn id len (fields_of id)) 0 → (a : Said) → a ≡ plain bad → outcome a heads ≡ requested heads id len d
   frame_refused y bad told a e =
       ap (λ (x : Said). outcome x heads) e
-      ∙ refused_by refuse (in_order refuse (request_tests d) rest) (served_tests request_pgn id len (fields_of id)) bad (faults_are request_pgn id len f split bad told)
-      (one_does (served_tests request_pgn id len f) b its y bad told)
+      ∙ refused_by refuse (in_order refuse (request_tests d) rest) (served_tests request_pgn id len (fields_of id)) bad told
+      (one_does (served_tests request_pgn id len (fields_of id)) b (by_fields request_pgn id len f split b its) y bad told)
       ∙ in_two
 
   module _ (none : b ≡ false) (wrong : ℕ) (told : wrong ≡ first_number_of (request_tests d) 0) where
     on : in_order refuse (request_tests d) rest ≡ requested heads id len d
     on =
         passed_by_lem refuse (in_order refuse (request_tests d) rest) (served_tests request_pgn id len (fields_of id)) tt 0
-        (faults_are request_pgn id len f split 0 (none_does (served_tests request_pgn id len f) b its none)) refl
+        (none_does (served_tests request_pgn id len (fields_of id)) b (by_fields request_pgn id len f split b its) none) refl
         ∙ in_two
 
     -- 24 or 31
@@ -100,12 +110,12 @@ module _ (m : Memory) (out : List ℕ) (holder : ℕ) (d : List ℕ) (i : ℕ) (
 
 module _ (m : Memory) (out : List ℕ) (id len : ℕ) (d : List ℕ) (f : Fields) (split : f ≡ fields_of id) (b : Bool) (its : Refused packet_pgn id len f b) where
   -- 1, 2 or 3
-  pub packet_refused : b ≡ true → (bad : ℕ) → bad ≡ first_number_of (served_tests packet_pgn id len f) 0 → (a : Said) (p : ℕ) → a ≡ plain bad → p ≡ 0 → received a p m out ≡ arrived m out id len d
+  pub packet_refused : b ≡ true → (bad : ℕ) → bad ≡ first_number_of (served_tests packet_pgn id len (fields_of id)) 0 → (a : Said) (p : ℕ) → a ≡ plain bad → p ≡ 0 → received a p m out ≡ arrived m out id len d
   unfolding arrived
   packet_refused y bad told a p e z =
       (λ j. received (e j) (z j) m out)
       ∙ refused_by (λ k. noted (briefly k) m out) (takes m out (holder_in (fields_of id)) d) (served_tests packet_pgn id len (fields_of id)) bad
-      (faults_are packet_pgn id len f split bad told) (one_does (served_tests packet_pgn id len f) b its y bad told)
+      told (one_does (served_tests packet_pgn id len (fields_of id)) b (by_fields packet_pgn id len f split b its) y bad told)
 
   module _ (none : b ≡ false) (w : ℕ) (ew : w ≡ holder_in f) (i : ℕ) (ei : i ≡ row_with m.heads w) where
     there : i ≡ row_with m.heads (holder_in (fields_of id))
@@ -115,7 +125,7 @@ module _ (m : Memory) (out : List ℕ) (id len : ℕ) (d : List ℕ) (f : Fields
     unfolding arrived
     on_packet =
         passed_by_lem (λ k. noted (briefly k) m out) (takes m out (holder_in (fields_of id)) d) (served_tests packet_pgn id len (fields_of id)) tt 0
-        (faults_are packet_pgn id len f split 0 (none_does (served_tests packet_pgn id len f) b its none)) refl
+        (none_does (served_tests packet_pgn id len (fields_of id)) b (by_fields packet_pgn id len f split b its) none) refl
 
     -- 28
     pub is_28 : 8 ≤ i → (a : Said) (p : ℕ) → a ≡ plain 28 → p ≡ 0 → received a p m out ≡ arrived m out id len d

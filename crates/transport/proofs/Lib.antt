@@ -2,3 +2,4 @@ pub mod Tests
 pub mod Words
 pub mod Packets
 pub mod Frames
+mod Copy

@@ -13,8 +13,8 @@ use Rattle.splice.specs.Splice.{splice, covered, laid}
 use Rattle.splice.proofs.Laws.{laid-is}
 use Rattle.session.specs.Cut.{seven_of}
 use Rattle.session.proofs.Seven.{seven_long, seven_same}
-use Rattle.transport.specs.Rows.{fresh_heads, holder_word}
 use Rattle.transport.specs.Calls.{open_row}
+use Rattle.transport.specs.Rows.{fresh_heads, holder_word}
 
 -- ---- head words
 
@@ -25,6 +25,10 @@ module _ (heads : List ℕ) (long : length heads ≡ 32) (i : ℕ) (h : i < 8) w
   pub head_holder : holder_word (row_at 4 heads i) ≡ get_or heads (i * 4) 0
   head_holder = row_at-head 4 heads i (omega arith) (lit< tt)
 
+pub all_nobodys : (heads : List ℕ) → length heads ≡ 32 → replicate (length heads) 0 ≡ fresh_heads
+unfolding fresh_heads
+all_nobodys heads long = ap (λ (n : ℕ). replicate n 0) long
+
 -- four stores, one after another
 pub four_stored : (r : List ℕ) → length r ≡ 4 → (holder size pgn : ℕ) → set (set (set (set r 0 holder) 1 1) 2 size) 3 pgn ≡ open_row holder size pgn
 four_stored [] e a b c = absurd (omega (arith, e))
@@ -33,10 +37,6 @@ four_stored (x ∷ y ∷ []) e a b c = absurd (omega (arith, e))
 four_stored (x ∷ y ∷ z ∷ []) e a b c = absurd (omega (arith, e))
 four_stored (x ∷ y ∷ z ∷ w ∷ []) e a b c = refl
 four_stored (x ∷ y ∷ z ∷ w ∷ v ∷ r) e a b c = absurd (omega (arith, e))
-
-pub all_nobodys : (heads : List ℕ) → length heads ≡ 32 → replicate (length heads) 0 ≡ fresh_heads
-unfolding fresh_heads
-all_nobodys heads long = ap (λ (n : ℕ). replicate n 0) long
 
 -- ---- bytes
 

@@ -1,5 +1,5 @@
 -- The two calls of the transport protocol (02, Req 14): what each answers and what it leaves in the lent memory, on any words. Assumes nothing.
-use Rattle.std.specs.Prelude.{ℕ, ◌+◌, ◌-◌, ◌*◌, cond, not, ◌&&◌, List, [], ◌∷◌, ◌++◌, eqb, ltb, set}
+use Rattle.std.specs.Prelude.{ℕ, ◌+◌, ◌-◌, ◌*◌, cond, not, ◌&&◌, List, [], ◌∷◌, ◌++◌, eqb, ltb, set, Result, Ok, Err}
 use Rattle.std.proofs.Math.Option.{some}
 use Rattle.words.specs.Rows.{put_at}
 use Rattle.answers.specs.Answers.{Said, plain, Outcome, outcome, in_numbers}
@@ -11,6 +11,8 @@ use Rattle.splice.specs.Splice.{splice}
 use Rattle.session.specs.Session.{per_packet, most_bytes, mismatched, is_next, is_last, Told, briefly, tell}
 use Rattle.session.specs.Cut.{control_of, size_said, packets_said, pgn_said, number_of, seven_of}
 use Rattle.transport.specs.declared.Arrived.{Arrived}
+use Rattle.transport.specs.declared.Refusal.{Refusal}
+use Rattle.transport.specs.declared.Refusal.TheVariants.{NotToSend, Mismatched, AllTaken}
 use Rattle.transport.specs.Rows.{sessions, head_words, Memory, memory, next_word, size_word, Row, row_of, pair_number, row_with, session_in}
 
 -- ---- a frame
@@ -34,6 +36,13 @@ holder_in f = pair_in f + 1
 -- "Refusals: 24 another control byte .., 31 size outside 9 to 1,785 or not matching its packet count"
 abbrev pub request_tests : List ℕ → List (Test ℕ)
 request_tests d = 24 when not (eqb (control_of d) 16) ∷ 31 when mismatched (size_said d) (packets_said d) ∷ []
+
+-- the same of what a request came to: 0, or the number of its refusal
+abbrev pub number_said : Result (Unit {0}) Refusal → ℕ
+number_said (Ok _) = 0
+number_said (Err NotToSend) = 24
+number_said (Err Mismatched) = 31
+number_said (Err AllTaken) = 30
 
 -- where a holder's session goes: "a new request to send replaces that pair's own session", a pair that has none gets the lowest row that nobody holds; 8 where
 -- there is none

@@ -8,16 +8,11 @@
 //   5 place, word of 8 bytes         writes a head word; no line
 #![tactic(auto)]
 
-use lines::{STDIN_FILENO, bytes, end, first, four, front, more, two};
+use lines::{STDIN_FILENO, bytes, eight, end, first, four, front, more};
 use transport::{BYTES, Bytes, Heads, MOST, Payload, WORDS};
 
-// The eight data bytes of a case.
-fn data(b: &[u8; 16]) -> [u8; 8] {
-    [b[6], b[7], b[8], b[9], b[10], b[11], b[12], b[13]]
-}
-
 fn request(heads: &mut Heads, b: &[u8; 16]) {
-    let d = data(b);
+    let d = eight(b, 6);
     let a = transport::request(heads, four(b[1], b[2], b[3], b[4]), b[5], &d);
     first(a.number);
     more(a.detail);
@@ -34,7 +29,7 @@ fn show(out: &[u8], size: usize) {
 }
 
 fn packet(heads: &mut Heads, held: &mut Bytes, out: &mut Payload, b: &[u8; 16]) {
-    let d = data(b);
+    let d = eight(b, 6);
     let r = transport::packet(heads, held, out, four(b[1], b[2], b[3], b[4]), b[5], &d);
     let a = r.answer;
     first(a.number);
@@ -43,16 +38,8 @@ fn packet(heads: &mut Heads, held: &mut Bytes, out: &mut Payload, b: &[u8; 16]) 
     show(out, a.detail as usize);
 }
 
-fn put(heads: &mut Heads, b: &[u8; 16]) {
-    let at = two(b[1], 0);
-    if at < WORDS {
-        let low = four(b[2], b[3], b[4], b[5]);
-        let high = four(b[6], b[7], b[8], b[9]);
-        heads[at] = low as u64 + high as u64 * 4294967296;
-    }
-}
-
 fn run(heads: &mut Heads, held: &mut Bytes, out: &mut Payload, b: &[u8; 16]) {
+    // Kept: a number, since the tag is a byte of the files that tests/model.py writes (tests/README.md).
     match b[0] {
         0 => transport::fresh(heads),
         1 => request(heads, b),
@@ -61,7 +48,7 @@ fn run(heads: &mut Heads, held: &mut Bytes, out: &mut Payload, b: &[u8; 16]) {
             io::read_full(STDIN_FILENO, out);
         }
         4 => show(out, MOST),
-        _ => put(heads, b),
+        _ => lines::put(heads, b[1] as usize, u64::from_le_bytes(eight(b, 2))),
     }
 }
 
@@ -70,11 +57,7 @@ fn main() {
     let mut heads = [0u64; WORDS];
     let mut held = [0u8; BYTES];
     let mut out = [0u8; MOST];
-    let mut b = [0u8; 16];
-    for _ in 0..u64::MAX {
-        if !lines::case(&mut b) {
-            break;
-        }
+    for b in (0..u64::MAX).map_while(|_| lines::next_case()) {
         run(&mut heads, &mut held, &mut out, &b);
     }
 }

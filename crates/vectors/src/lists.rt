@@ -2,25 +2,25 @@
 ghost use Rattle.io.specs.Counts.{IsPrefixLen};
 
 use lines::{STDIN_FILENO, bytes, end, first, more, numbers, room, two, words};
-use payload::Laying;
+use payload::Unlaid;
 
-fn laying(l: Laying) {
+fn laying(l: Result<u32, Unlaid>) {
     match l {
-        Laying::Done(detail) => {
-            first(0);
+        Ok(detail) => {
+            first(0u8);
             more(detail);
         }
-        Laying::Unplaced(position) => {
-            first(12);
-            more(position as u32);
+        Err(Unlaid::Unplaced(position)) => {
+            first(12u8);
+            more(position);
         }
-        Laying::Length => {
-            first(13);
-            more(0);
+        Err(Unlaid::Length) => {
+            first(13u8);
+            more(0u8);
         }
-        Laying::TooWide(position) => {
-            first(14);
-            more(position as u32);
+        Err(Unlaid::TooWide(position)) => {
+            first(14u8);
+            more(position);
         }
     }
 }
@@ -28,7 +28,7 @@ fn laying(l: Laying) {
 fn judge(n: u8, transport: bool, spns: &[u32], starts: &[u32], widths: &[u32]) {
     let j = judge::judge(n, transport, spns, starts, widths);
     first(answers::number_of(j));
-    more(answers::position_of(j) as u32);
+    more(answers::position_of(j));
     end();
 }
 
@@ -49,14 +49,13 @@ fn read(starts: &[u32], widths: &[u32], given: &mut [u32], payload: &mut [u8]) {
 fn pattern(seed: u8, n: usize, list: &mut [u8]) -> usize
     ensures { IsPrefixLen result list.new }
 {
+    let n = n.min(list.len());
     let mut value = seed;
-    let mut i = 0;
-    while i < list.len() && i < n {
-        list[i] = value;
-        value = std::num::wrapping_add_u8(value, 29);
-        i += 1;
+    for byte in &mut list[..n] {
+        *byte = value;
+        value = value.wrapping_add(29);
     }
-    i
+    n
 }
 
 // A case of lists: n, transport, how many SPNs, starts, widths and numbers, a seed, how many payload bytes; then those lists.

@@ -1,9 +1,8 @@
 // The rooms answers, frame, message and dictionary.
 use answers::Judgement;
-use dictionary::Found;
 use frame::Three;
-use lines::{end, first, four, long, more, numbers};
-use message::{Decoded, Message};
+use lines::{eight, end, first, four, more, numbers};
+use message::Message;
 
 fn judgement(number: u8, p: u8) -> Judgement {
     match number {
@@ -22,7 +21,7 @@ fn judgement(number: u8, p: u8) -> Judgement {
 
 fn judged(j: Judgement) {
     first(answers::number_of(j));
-    more(answers::position_of(j) as u32);
+    more(answers::position_of(j));
 }
 
 fn fields(id: u32) {
@@ -55,18 +54,18 @@ fn said(m: Message) {
 
 fn decoded(id: u32, len: u8, d: &[u8; 8]) {
     match message::decode(id, len, d) {
-        Decoded::Refused(number) => first(number),
-        Decoded::Taken(m) => {
-            first(0);
+        Ok(m) => {
+            first(0u8);
             said(m);
         }
+        Err(fault) => first(u8::from(fault)),
     }
 }
 
 fn three(t: Three) {
     first(t.first);
-    more(t.second as u32);
-    more(t.third as u32);
+    more(t.second);
+    more(t.third);
 }
 
 fn both(t: Three) {
@@ -76,13 +75,13 @@ fn both(t: Three) {
 }
 
 // The start of a line: 1 and a row's number, or 0.
-fn found(f: Found) {
-    match f {
-        Found::At(i) => {
-            first(1);
-            long(i as u64);
+fn found(row: Option<usize>) {
+    match row {
+        Some(i) => {
+            first(1u8);
+            more(i as u64);
         }
-        Found::Nothing => first(0),
+        None => first(0u8),
     }
 }
 
@@ -92,7 +91,7 @@ fn row(spn: u32) {
 }
 
 fn width(edition: u32, spn: u32) {
-    first((dictionary::width_of(edition, spn) % 256) as u8);
+    first(dictionary::width_of(edition, spn));
 }
 
 // A case of 13 bytes: a word and further bytes.
@@ -101,11 +100,7 @@ pub(crate) fn run(b: &[u8; 14]) {
     match b[0] {
         0 => judged(judgement(b[1], b[2])),
         1 => fields(w),
-        2 => decoded(
-            w,
-            b[5],
-            &[b[6], b[7], b[8], b[9], b[10], b[11], b[12], b[13]],
-        ),
+        2 => decoded(w, b[5], &eight(b, 6)),
         3 => three(frame::pgn_bytes(w)),
         4 => three(frame::spn_bytes(w, b[5])),
         5 => both(Three {
@@ -114,7 +109,7 @@ pub(crate) fn run(b: &[u8; 14]) {
             third: b[3],
         }),
         6 => row(w),
-        7 => first(message::is_miscounted(b[1], b[2], b[3]) as u8),
+        7 => first(message::is_miscounted(b[1], b[2], b[3])),
         _ => width(four(b[5], b[6], b[7], b[8]), w),
     }
     end();

@@ -13,33 +13,35 @@ pub struct View<'a> {
     pub row: usize,
 }
 
-// A view of the first row.
-pub fn first<'a>(image: &'a [u8]) -> View<'a>
-    ensures { (result.image ≡ image.entry) × (result.row ≡ 0) }
-{
-    View { image, row: 0 }
-}
+impl<'a> View<'a> {
+    // A view of the first row.
+    pub fn first(image: &'a [u8]) -> View<'a>
+        ensures { (result.image ≡ image.entry) × (result.row ≡ 0) }
+    {
+        View { image, row: 0 }
+    }
 
-// The key of the row; all 0 where the image is damaged or has no such row.
-pub fn key<'a>(v: View<'a>) -> Key
-    ensures { result ≡ row_key v.entry.image.now v.entry.row }
-{
-    contents::row_key(v.image, v.row)
-}
+    // The key of the row; all 0 where the image is damaged or has no such row.
+    pub fn key(self) -> Key
+        ensures { result ≡ row_key self.entry.image.now self.entry.row }
+    {
+        contents::row_key(self.image, self.row)
+    }
 
-// The body of the row, as a part of the image; an empty part where the image is damaged or has no such row.
-pub fn body<'a>(v: View<'a>) -> &'a [u8]
-    ensures { PartOf v.entry.image result (row_offset v.entry.image.now v.entry.row) (row_body v.entry.image.now v.entry.row) }
-{
-    contents::row_body(v.image, v.row)
-}
+    // The body of the row, as a part of the image; an empty part where the image is damaged or has no such row.
+    pub fn body(self) -> &'a [u8]
+        ensures { PartOf self.entry.image result (row_offset self.entry.image.now self.entry.row) (row_body self.entry.image.now self.entry.row) }
+    {
+        contents::row_body(self.image, self.row)
+    }
 
-// A view of the row after it; behind the last row the view stays.
-pub fn next<'a>(v: View<'a>) -> View<'a>
-    ensures { (result.image ≡ v.entry.image) × (result.row ≡ row_next v.entry.image.now v.entry.row) }
-{
-    View {
-        image: v.image,
-        row: contents::row_next(v.image, v.row),
+    // A view of the row after it; behind the last row the view stays.
+    pub fn next(self) -> View<'a>
+        ensures { (result.image ≡ self.entry.image) × (result.row ≡ row_next self.entry.image.now self.entry.row) }
+    {
+        View {
+            image: self.image,
+            row: contents::row_next(self.image, self.row),
+        }
     }
 }

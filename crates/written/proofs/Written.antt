@@ -6,7 +6,8 @@ use mathlib.Core.Bool.{Bool, true, false, cond}
 use mathlib.Core.List.{List, [], ◌∷◌}
 use mathlib.Core.Option.{some}
 use lib.Dec.{eqb, ltb}
-use lib.ListN.{get_or, length}
+use lib.ListN.{get_or, length, drop_of_length-le}
+use lib.Seq.{drop-cons}
 use native.Mathlib.Omega.{arith}
 use native.Mathlib.Nat.{mod-eq_of_lt}
 use native.Mathlib.Decide.{ℕ_discrete}
@@ -20,6 +21,12 @@ use Rattle.message.specs.declared.Message.{Message}
 use Rattle.message.specs.Message.{bytes as three, wire_of, message_of, heard_from, heard}
 use Rattle.message.proofs.WellFormed.{WellFormed, well_formed, spn-bits, key-number, heard_exactly, heard-message, heard_ranges}
 use Rattle.written.specs.Written.{id_of, flag, five_of, with_key, data_of, Teachable}
+
+-- ---- five bytes, one by one
+
+pub five-is : (l : List ℕ) → length l ≡ 5 → get_or l 0 0 ∷ get_or l 1 0 ∷ get_or l 2 0 ∷ get_or l 3 0 ∷ get_or l 4 0 ∷ [] ≡ l
+five-is l h =
+    sym (drop-cons l 0 0 (omega arith) ∙ rw (drop-cons l 1 0 (omega arith), drop-cons l 2 0 (omega arith), drop-cons l 3 0 (omega arith), drop-cons l 4 0 (omega arith), drop_of_length-le l {i = 5} (omega arith)) refl)
 
 -- ---- the fields of a written identifier
 

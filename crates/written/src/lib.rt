@@ -5,7 +5,7 @@
 ghost use Rattle.std.specs.Prelude.{◌≡◌, [], ◌∷◌, ◌≤◌};
 ghost use Rattle.answers.specs.Answers.{outcome, in_numbers};
 ghost use Rattle.record.specs.Record.{written};
-ghost use Rattle.written.specs.Written.{id_of, flag, head_byte, five_of, with_key, data_of};
+ghost use Rattle.written.specs.Written.{id_of, head_byte, five_of, with_key, data_of};
 
 use answers::Answer;
 use message::{Head, Key, Message, Place};
@@ -23,18 +23,11 @@ pub fn id_of(key: Key) -> u32
     CONFIGURATION + key.destination as u32 * 256 + key.source as u32
 }
 
-// Yes is 1 and no is 0.
-fn flag(b: bool) -> u8
-    ensures { (result ≡ flag b) × (result ≤ 1) }
-{
-    if b { 1 } else { 0 }
-}
-
-// Byte 7: proprietary, transport, first-only, which is no, and n.
+// Byte 7: proprietary, transport, first-only, which is no, and n; yes is 1 and no is 0.
 pub fn head_byte(h: Head) -> u8
     ensures { result ≡ head_byte h }
 {
-    flag(h.proprietary) * 128 + flag(h.transport) * 64 + h.n % 32
+    u8::from(h.proprietary) * 128 + u8::from(h.transport) * 64 + h.n % 32
 }
 
 // Bytes 4 to 8: what the message says of its position. The starting bit counts from 1.
@@ -48,10 +41,11 @@ pub fn five_of(h: Head, position: u8, x: Place) -> [u8; 5]
 }
 
 // The eight bytes of a key's frame: the PGN of its message k, and five more.
-pub fn with_key(k: u8, a: u8, b: u8, c: u8, d: u8, e: u8) -> [u8; 8]
-    ensures { result ≡ with_key k (a ∷ b ∷ c ∷ d ∷ e ∷ []) }
+pub fn with_key(k: u8, five: [u8; 5]) -> [u8; 8]
+    ensures { result ≡ with_key k five }
 {
     let pgn = frame::pgn_bytes(45056 + 256 * k as u32);
+    let [a, b, c, d, e] = five;
     [pgn.first, pgn.second, pgn.third, a, b, c, d, e]
 }
 
@@ -63,7 +57,7 @@ pub fn data_of(m: Message) -> [u8; 8]
     let head = m.head;
     let place = m.place;
     let five = five_of(head, m.position, place);
-    with_key(key.k, five[0], five[1], five[2], five[3], five[4])
+    with_key(key.k, five)
 }
 
 // Lays the record of a message over the first 13 bytes: 0, or 13 and nothing written where there are fewer.

@@ -1,29 +1,14 @@
 -- `pack`: 11 and 12 by what opening the map answered; a usable map's lists go to payload's call, which then finds each position placed. Assumes nothing.
-use mathlib.Core.Path.{sym}
-use lib.Seq.{length-take-le}
 use Rattle.dictionary.proofs.Table.{width-most}
-use Rattle.ask.proofs.Calls.{pack_unready, pack_told, starts-room, widths-room}
+use Rattle.ask.proofs.Calls.{pack_unready, pack_told}
 use Rattle.ask.proofs.pack.Goals as goal
 
-pub returns-then-answer-ne0 : goal.returns-then-answer-ne0
-returns-then-answer-ne0 c =
+pub returns-in-Ok : goal.returns-in-Ok
+returns-in-Ok c =
     let s = c.args in
-    pack_unready _ _ _ c.lists_of-lists.ensures.said c.if-answer-ne0.true s.numbers.now s.out.now
+    pack_told _ _ _ _ _ c.in-Ok.ensures (width-most _) _ _ c.told.ensures s.numbers.now _ s.out.now c.pack.ensures
 
-pub slice_bounds-starts-end : goal.slice_bounds-starts-end
-slice_bounds-starts-end c = starts-room _ _ _ _ _ _ c.lists_of-lists.ensures c.if-answer-ne0.false
-
-pub slice_bounds-pack-end : goal.slice_bounds-pack-end
-slice_bounds-pack-end c = sym (length-take-le _ _ ((starts-room _ _ _ _ _ _ c.lists_of-lists.ensures c.if-answer-ne0.false)))
-
-pub slice_bounds-widths-end : goal.slice_bounds-widths-end
-slice_bounds-widths-end c = widths-room _ _ _ _ _ _ c.lists_of-lists.ensures c.if-answer-ne0.false
-
-pub slice_bounds-pack-end-2 : goal.slice_bounds-pack-end-2
-slice_bounds-pack-end-2 c = sym (length-take-le _ _ ((widths-room _ _ _ _ _ _ c.lists_of-lists.ensures c.if-answer-ne0.false)))
-
-pub returns : goal.returns
-returns c =
+pub returns-in-Err : goal.returns-in-Err
+returns-in-Err c =
     let s = c.args in
-    pack_told _ _ _ _ _ _ c.lists_of-lists.ensures c.if-answer-ne0.false (width-most _) _ _ c.told.ensures
-    s.numbers.now _ s.out.now c.pack.ensures
+    pack_unready _ _ _ c.in-Err.ensures s.numbers.now s.out.now

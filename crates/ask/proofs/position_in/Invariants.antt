@@ -1,4 +1,3 @@
-use Prim.Native.Nat.{◌-◌}
 use lib.Dec.{eqb}
 use lib.ListN.{get_or}
 use Rattle.words.proofs.Lowest.{None}
@@ -6,6 +5,3 @@ use Rattle.ask.proofs.position_in.Given as goal
 
 abbrev pub invariant-loop-i : goal.invariant-loop-i
 invariant-loop-i l = None (λ k. eqb (get_or l.spns k 0) l.spn) l.i
-
-abbrev pub decreases-loop-i : goal.decreases-loop-i
-decreases-loop-i l = l.n - l.i

@@ -6,7 +6,7 @@ pub returns-then-answer-ne0 : goal.returns-then-answer-ne0
 returns-then-answer-ne0 c = ready_11 _ c.if-answer-ne0.true
 
 pub returns-then-number_of-ne0 : goal.returns-then-number_of-ne0
-returns-then-number_of-ne0 c = ready_12 _ _ _ c.if-answer-ne0.false c.number_of.ensures c.if-number_of-ne0.true c.not_usable.ensures
+returns-then-number_of-ne0 c = ready_12 _ _ c.if-answer-ne0.false c.number_of.ensures _ c.if-number_of-ne0.true c.not_usable.ensures
 
 pub returns : goal.returns
-returns c = ready_0 _ _ _ c.if-answer-ne0.false c.number_of.ensures c.if-number_of-ne0.false c.plainly.ensures
+returns c = ready_0 _ _ c.if-answer-ne0.false c.number_of.ensures c.if-number_of-ne0.false

@@ -3,4 +3,4 @@ use Rattle.bits.proofs.Run.{merged}
 use Rattle.bits.proofs.merge.Goals as goal
 
 pub returns : goal.returns
-returns c j l = merged 8 c.args.old c.args.mask c.args.new j l
+returns c j l = merged c.args.word c.args.mask c.args.bits j c.ranges.mask.fits l

@@ -1,26 +1,19 @@
 -- `put_bytes`: after i turns the first i bytes have taken their bits. Assumes nothing.
-use mathlib.Core.Path.{◌≡◌, refl, sym}
+use mathlib.Core.Path.{refl, sym}
 use native.Mathlib.Nat.{div-one}
 use native.Mathlib.Omega.{arith}
-use borrow.Author.Rules.{rules}
-use lib.ListN.{length-set}
 use Rattle.bits.specs.Bits.{bit_at}
 use Rattle.bits.proofs.Run.{put_turn, masked_none, byte_less}
 use Rattle.bits.proofs.put_bytes.Goals as goal
 
 pub loop-i-init : goal.loop-i-init
-loop-i-init c = (search rules, refl, sym (div-one _), sym (div-one _), λ p. masked_none _ _ _ p _)
+loop-i-init c = (sym (div-one _), sym (div-one _), λ p. masked_none _ _ _ p _)
 
 pub loop-i-preserved : goal.loop-i-preserved
 loop-i-preserved c =
     let a = c.args in (
-      search rules,
-      simp length-set (search rules),
-      byte_less a.mask c.loop-i.i c.loop-i.m c.loop-i.invariant.2,
-      byte_less a.bits c.loop-i.i c.loop-i.b c.loop-i.invariant.3,
-      put_turn c.loop-i.out a.k c.loop-i.i a.mask a.bits _ _ _ (bit_at a.out.now) (omega arith) c.loop-i.invariant.4 c.loop-i.invariant.2 c.loop-i.invariant.3
-          c.merge.ensures,
+      byte_less a.mask c.loop-i.i c.loop-i.m c.loop-i.invariant.0,
+      byte_less a.bits c.loop-i.i c.loop-i.b c.loop-i.invariant.1,
+      put_turn c.loop-i.out a.k c.loop-i.i a.mask a.bits _ _ _ (bit_at a.out.now) (omega arith) c.loop-i.invariant.2 c.loop-i.invariant.0 c.loop-i.invariant.1
+          _ c.merge.ensures refl,
     )
-
-pub returns : goal.returns
-returns c = let e : c.loop-i.i ≡ c.args.n = omega arith in λ p. rw e at (c.loop-i.invariant.4 p)

@@ -1,13 +1,8 @@
 use mathlib.Core.Path.{◌≡◌}
-use Prim.Native.Nat.{ℕ, ◌-◌, ◌*◌, ◌/◌, ◌^◌, ◌≤◌}
-use lib.ListN.{length}
+use Prim.Native.Nat.{ℕ, ◌*◌, ◌/◌, ◌^◌}
 use Rattle.bits.specs.Bits.{bit_at, masked}
 use Rattle.bits.proofs.put_bytes.Given as goal
 
 abbrev pub invariant-loop-i : goal.invariant-loop-i
 invariant-loop-i l =
-    (l.i ≤ l.n) × (length l.out ≡ length l.initial.out) × (l.m ≡ l.mask / 2 ^ (8 * l.i)) × (l.b ≡ l.bits / 2 ^ (8 * l.i))
-    × ((p : ℕ) → bit_at l.out p ≡ masked l.k l.i l.mask l.bits p (bit_at l.initial.out p))
-
-abbrev pub decreases-loop-i : goal.decreases-loop-i
-decreases-loop-i l = l.n - l.i
+    (l.m ≡ l.mask / 2 ^ (8 * l.i)) × (l.b ≡ l.bits / 2 ^ (8 * l.i)) × ((p : ℕ) → bit_at l.out p ≡ masked l.k l.i l.mask l.bits p (bit_at l.initial.out p))

@@ -14,7 +14,7 @@ pub returns-then-lies_in : goal.returns-then-lies_in
 returns-then-lies_in c =
     let a = c.args in
     put-number a.out.now c.lay_odd.new.out a.start a.width a.value (sym c.lies_in.ensures ∙ c.if-lies_in.true) (search rules)
-    (λ k. (c.slice_known-then-lies_in-1.given k).fits) c.lay_odd.ensures
+    (search rules) c.lay_odd.ensures
 
 pub returns-else-lies_in : goal.returns-else-lies_in
 unfolding with_number

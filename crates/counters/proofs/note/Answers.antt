@@ -2,8 +2,10 @@
 use Rattle.counters.proofs.Rows.{lent-noted, none_noted}
 use Rattle.counters.proofs.note.Goals as goal
 
-pub returns-then-w-pair : goal.returns-then-w-pair
-returns-then-w-pair c = none_noted _ _ _ c.if-w-pair.true
+pub returns-in-Some : goal.returns-in-Some
+returns-in-Some c =
+    let lent = c.split_at_mut-rest.ensures in
+    lent-noted _ _ c.if-pair-w.true lent.front lent.back c.in-Some.ensures.cases.same _ c.note_row.ensures
 
-pub returns : goal.returns
-returns c = lent-noted _ _ _ c.if-w-pair.false c.note_row.ensures
+pub returns-else-pair-w : goal.returns-else-pair-w
+returns-else-pair-w c = none_noted _ _ _ c.if-pair-w.false

@@ -8,9 +8,7 @@ use native.Mathlib.Omega.{arith}
 use lib.Dec.{leb}
 use lib.ListN.{length}
 use Rattle.words.proofs.Halve.{turns-halved, leads_all, leads_turn, leads_there}
-use Rattle.rowrule.specs.Rows.{row_in, rows_in}
-use Rattle.rowrule.proofs.Table.{pair-at}
-use Rattle.dictionary.specs.Dictionary.{found_row}
+use Rattle.rowrule.specs.Rows.{row_in}
 use Rattle.dictionary.proofs.Lent.{not_below, number_found, halved-nowhere}
 use Rattle.dictionary.proofs.row_in.Goals as goal
 
@@ -40,20 +38,18 @@ loop-n-smaller c = omega (arith, turns-halved c.loop-n.n (omega arith))
 pub loop-n-preserved : goal.loop-n-preserved
 loop-n-preserved c =
     let spn = c.args.spn in
-    let ps = c.args.rows.now in
-    let went = c.step-hi.ensures.0 ∙ ap (λ (x : ℕ). cond (leb spn x) (c.loop-n.n / 2) 0) (c.wide.ensures ∙ (pair-at ps (c.loop-n.hi - c.loop-n.n / 2)).0) in
-    (omega arith, omega arith, omega arith, leads_turn (not_below ps spn) (length ps) c.loop-n.hi c.loop-n.n _ (omega arith) (ap (λ (x : ℕ). c.loop-n.hi - x) went) c.loop-n.invariant.3)
+    let rows = c.args.rows.now in
+    let went = c.step-hi.ensures.0 ∙ ap (λ (x : ℕ). cond (leb spn x) (c.loop-n.n / 2) 0) c.from.ensures in
+    (omega arith, omega arith, omega arith, leads_turn (not_below rows spn) (length rows) c.loop-n.hi c.loop-n.n _ (omega arith) (ap (λ (x : ℕ). c.loop-n.hi - x) went) c.loop-n.invariant.3)
 
-pub returns-then-wide-spn : goal.returns-then-wide-spn
-unfolding found_row
-returns-then-wide-spn c =
-    let ps = c.args.rows.now in
-    number_found ps c.requires c.args.spn c.loop-n.hi c.loop-n.invariant.2 (sym (c.wide-2.ensures ∙ (pair-at ps c.loop-n.hi).0) ∙ c.if-wide-spn.true)
+pub returns-then-from-spn : goal.returns-then-from-spn
+returns-then-from-spn c =
+    let rows = c.args.rows.now in
+    number_found rows c.requires c.args.spn c.loop-n.hi c.loop-n.invariant.2 (sym c.from-2.ensures ∙ c.if-from-spn.true)
 
 pub returns : goal.returns
-unfolding found_row
 returns c =
-    let ps = c.args.rows.now in
-    let e = leads_there (not_below ps c.args.spn) (length ps) c.loop-n.hi c.loop-n.n (omega arith) c.loop-n.invariant.3 in
-    halved-nowhere ps c.requires c.args.spn
-    (λ has. c.if-wide-spn.false (c.wide-2.ensures ∙ (pair-at ps c.loop-n.hi).0 ∙ ap (λ (i : ℕ). (row_in (rows_in ps) i).spn) e ∙ has))
+    let rows = c.args.rows.now in
+    let e = leads_there (not_below rows c.args.spn) (length rows) c.loop-n.hi c.loop-n.n (omega arith) c.loop-n.invariant.3 in
+    halved-nowhere rows c.requires c.args.spn
+    (λ has. c.if-from-spn.false (c.from-2.ensures ∙ ap (λ (i : ℕ). (row_in rows i).spn) e ∙ has))

@@ -4,9 +4,7 @@ use mathlib.Core.Path.{◌≡◌, ap, ◌∙◌}
 use Rattle.answers.specs.declared.Answer.{Answer}
 use Rattle.answers.specs.Answers.{Said, in_numbers, plain}
 use Rattle.counters.specs.declared.Fate.{Fate}
-use Rattle.bridge.specs.declared.Offered.{Offered}
-use Rattle.bridge.specs.declared.Offered.TheVariants.{To, NoPort}
-use Rattle.bridge.specs.Bridge.{answers, answers_of, answer_to}
+use Rattle.bridge.specs.Bridge.{Offered, To, NoPort, answers, answers_of, answer_to}
 use Rattle.firmware.specs.declared.Told.{Told}
 use Rattle.firmware.specs.Told.{said_to, told_of}
 use Rattle.firmware.proofs.answered_in_c.Goals as goal
@@ -22,10 +20,10 @@ offered o t x y z f g h e p q r s = rw (e, p, q, r, s)
 no-port : (o : Offered) (t x : Told) → o ≡ NoPort → said_to t ≡ plain 15 → said_to x ≡ plain 0 → answers (said_to t) (said_to x) (said_to x) (said_to x) ≡ answers_of o
 no-port o t x e p q = rw (e, p, q)
 
-pub returns-in-To : goal.returns-in-To
-returns-in-To c =
-    offered _ _ _ _ _ _ _ _ c.in-To.is (said c.plainly.result _ _ c.in_c.ensures c.plainly.ensures) (said c.answer_to.result _ _ c.in_c-in-To.ensures c.answer_to.ensures)
-    (said c.answer_to-in-To.result _ _ c.in_c-in-To-2.ensures c.answer_to-in-To.ensures) (said c.answer_to-in-To-2.result _ _ c.in_c-in-To-3.ensures c.answer_to-in-To-2.ensures)
+pub returns-in-Some : goal.returns-in-Some
+returns-in-Some c =
+    offered _ _ _ _ _ _ _ _ c.in-Some.is (said c.plainly.result _ _ c.in_c.ensures c.plainly.ensures) (said c.answer_to.result _ _ c.in_c-in-Some.ensures c.answer_to.ensures)
+    (said c.answer_to-in-Some.result _ _ c.in_c-in-Some-2.ensures c.answer_to-in-Some.ensures) (said c.answer_to-in-Some-2.result _ _ c.in_c-in-Some-3.ensures c.answer_to-in-Some-2.ensures)
 
-pub returns-in-NoPort : goal.returns-in-NoPort
-returns-in-NoPort c = no-port _ _ _ c.in-NoPort.is (said c.plainly-in-NoPort-2.result _ _ c.in_c-in-NoPort.ensures c.plainly-in-NoPort-2.ensures) (said c.plainly-in-NoPort.result _ _ c.in_c-none.ensures c.plainly-in-NoPort.ensures)
+pub returns-in-None : goal.returns-in-None
+returns-in-None c = no-port _ _ _ c.in-None.is (said c.plainly-in-None-2.result _ _ c.in_c-in-None.ensures c.plainly-in-None-2.ensures) (said c.plainly-in-None.result _ _ c.in_c-none.ensures c.plainly-in-None.ensures)

@@ -1,8 +1,7 @@
 -- `firmware::yendrolf_bridge_offer` meets its contract: the promise of the room below, with the answers as C gets them.
 -- Assumes nothing.
 use mathlib.Core.Path.{◌≡◌, ap}
-use Rattle.bridge.specs.declared.Offered.{Offered}
-use Rattle.bridge.specs.Bridge.{Bridge, Offers, offers, Answers, answers_of, answering, in_answers}
+use Rattle.bridge.specs.Bridge.{Bridge, Offered, Offers, offers, Answers, answers_of, answering, in_answers}
 use Rattle.firmware.proofs.yendrolf_bridge_offer.Goals as goal
 
 in_c : (a : Answers) (o : Offered) (b : Bridge) (s : Offers) → a ≡ answers_of o → offers o b ≡ s → answering a b ≡ in_answers s

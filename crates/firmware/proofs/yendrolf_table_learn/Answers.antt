@@ -5,20 +5,22 @@ use mathlib.Core.Path.{refl, sym, ap, ◌∙◌}
 use borrow.Author.Tests.{eqb-false}
 use Rattle.frame.specs.declared.Fields.{Fields}
 use Rattle.frame.specs.Frame.{fields_of}
+use Rattle.message.specs.declared.Fault.TheVariants.{OtherPgn}
+use Rattle.message.specs.Fault.{fault_number, number_told}
 use Rattle.message.specs.Message.{wire_of, frame_tests, heard}
 use Rattle.answers.specs.Tests.{first_number_of}
 use Rattle.message.proofs.Tests.{refused-at-once}
 use Rattle.table.proofs.Frames.{refused}
 use Rattle.firmware.proofs.yendrolf_table_learn.Goals as goal
 
-pub returns-then-frame_fault-eq2 : goal.returns-then-frame_fault-eq2
+pub returns-in-Some-OtherPgn : goal.returns-in-Some-OtherPgn
 unfolding heard
-returns-then-frame_fault-eq2 c =
+returns-in-Some-OtherPgn c =
     let a = c.args in
     simp (c.in_c.ensures, c.plainly.ensures)
-    (refused a.t.now a.id a.len a.d.now _
+    (refused a.t.now a.id a.len a.d.now OtherPgn
     (refused-at-once a.id a.len (fields_of a.id) (wire_of a.d.now) 2
-    (sym c.if-frame_fault-eq2.true ∙ c.frame_fault.ensures ∙ ap (λ (x : Fields). first_number_of (frame_tests a.id a.len x) 0) c.split.ensures)
+    (sym (ap fault_number c.in-Some-OtherPgn.field-0-is) ∙ sym (ap number_told c.in-Some-OtherPgn.is) ∙ c.frame_fault.ensures ∙ ap (λ (x : Fields). first_number_of (frame_tests a.id a.len x) 0) c.split.ensures)
     (eqb-false 2 0 refl)))
 
 pub returns : goal.returns

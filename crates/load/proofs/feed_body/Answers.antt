@@ -1,30 +1,16 @@
-use mathlib.Core.Path.{refl, sym, ◌∙◌}
+-- The frames passed are heard: those that are left make of the words what all make of them at the start. Assumes nothing.
+use mathlib.Core.Path.{sym, ◌∙◌}
 use native.Mathlib.Omega.{arith}
-use Rattle.keyrow.specs.Row.{key_of}
+use native.Mathlib.Numerals.{unary_clauses}
 use Rattle.load.proofs.Fed.{body_turn, body_done}
 use Rattle.load.proofs.feed_body.Goals as goal
 
-pub loop-left-init : goal.loop-left-init
-loop-left-init c = (omega arith, omega arith, refl)
-
-pub hear-requires : goal.hear-requires
-hear-requires c = omega arith
-
-pub overflow_add-at : goal.overflow_add-at
-overflow_add-at c = omega arith
-
-pub overflow_sub-left : goal.overflow_sub-left
-overflow_sub-left c = omega arith
-
-pub loop-left-smaller : goal.loop-left-smaller
-loop-left-smaller c = omega arith
-
-pub loop-left-preserved : goal.loop-left-preserved
-loop-left-preserved c =
+pub loop-i-preserved : goal.loop-i-preserved
+loop-i-preserved c =
     let a = c.args in
-    (omega arith, omega arith, rw c.hear.ensures (sym (body_turn c.loop-left.t a.image.now (key_of a.source a.destination a.k) c.loop-left.at c.loop-left.left (omega arith)) ∙ c.loop-left.invariant.2))
+    rw c.hear.ensures (sym (body_turn c.loop-i.t a.image.now a.key a.p c.loop-i.i a.n (omega arith)) ∙ c.loop-i.invariant)
 
 pub returns : goal.returns
 returns c =
     let a = c.args in
-    sym (body_done c.loop-left.t a.image.now (key_of a.source a.destination a.k) c.loop-left.at c.loop-left.left (omega arith)) ∙ c.loop-left.invariant.2
+    sym (body_done c.loop-i.t a.image.now a.key _ _ (omega arith)) ∙ c.loop-i.invariant

@@ -1,54 +1,51 @@
--- `locate::look_all`: at every turn the positions laid and those of the keys still to come are all, zeros stand behind them, and the keys counted and those still to be
--- counted are all that answer. Assumes nothing.
-use Prim.Native.Nat.{◌+◌, ◌-◌}
-use mathlib.Core.Path.{refl, ap, ◌∙◌}
-use mathlib.Core.Option.{Option}
+-- `locate::look_all`: the messages that are told and those of the keys still to come are all. Assumes nothing.
+use mathlib.Core.Path.{◌≡◌, refl, sym, ap, ◌∙◌}
+use mathlib.Core.List.{List, [], ◌∷◌, ◌++◌, append_assoc, append-nil}
+use native.Mathlib.Numerals.{add-one}
 use native.Mathlib.Omega.{arith}
-use lib.ListN.{length-set}
+use lib.ListN.{length, take, length-set}
+use lib.Seq.{length-take-le, take-suc-set}
 use Rattle.open.specs.Open.{width_for}
-use Rattle.message.specs.declared.Key.{Key}
-use Rattle.lookup.specs.Next.{key_found, walk}
-use Rattle.locate.specs.Parts.{positions_from}
-use Rattle.locate.proofs.Walked.{many, count_turn, count_stop, count-done, position-laid, zeros_left, positions_stop, positions-done}
+use Rattle.message.specs.declared.Message.{Message}
+use Rattle.lookup.specs.Next.{first_key, keys_left, held_keys}
+use Rattle.locate.proofs.Keys.{walk_few}
+use Rattle.locate.proofs.Walked.{all, answers}
 use Rattle.locate.proofs.look_all.Goals as goal
 
-pub loop-i-init : goal.loop-i-init
-loop-i-init c =
+pub loop-key-init : goal.loop-key-init
+loop-key-init c =
     let a = c.args in
-    let e = ap (λ (k : Option Key). many (width_for a.t.now) a.t.now a.asked.own a.asked.spn (walk 16 a.t.now k)) c.first_key-next.ensures in
-    (omega arith, refl, omega arith, omega (arith, e), ap (positions_from (width_for a.t.now) a.t.now a.asked.own a.asked.spn 16) c.first_key-next.ensures, refl)
+    let t = a.t.now in
+    let held : keys_left c.into_iter-key-iterator.result ≡ held_keys t = ap keys_left c.into_iter-key-iterator.ensures.into_iter_gives ∙ c.keys-key-items.ensures in
+    let few = walk_few 16 t (first_key t) in
+    (omega (arith, few, ap length held), refl, ap (all (width_for t) t a.asked.own a.asked.spn) held)
 
-pub overflow_add-count : goal.overflow_add-count
-overflow_add-count c = omega (arith, c.loop-i.invariant.2, c.loop-i.invariant.0, c.one_for-count.ensures.1)
-
-pub returns-in-NoMore : goal.returns-in-NoMore
-returns-in-NoMore c =
+pub loop-key-preserved-in-Some-position_told : goal.loop-key-preserved-in-Some-position_told
+loop-key-preserved-in-Some-position_told c =
     let a = c.args in
-    let n = ap key_found c.in-NoMore.is in
-    let z = count_stop (width_for a.t.now) a.t.now a.asked.own a.asked.spn (16 - c.loop-i.i) (key_found c.loop-i.next) n in
-    (positions_stop (width_for a.t.now) a.t.now a.asked.own a.asked.spn (16 - c.loop-i.i) (key_found c.loop-i.next) c.loop-i.positions _ c.loop-i.i c.loop-i.invariant.4 n c.loop-i.invariant.5, omega (arith, z, c.loop-i.invariant.3))
-
-pub loop-i-preserved : goal.loop-i-preserved
-loop-i-preserved c =
-    let a = c.args in
-    let m = 16 - (c.loop-i.i + 1) in
-    let n = 16 - c.loop-i.i in (
-      omega arith,
-      simp length-set c.loop-i.invariant.1,
-      omega (arith, c.loop-i.invariant.2, c.one_for-count.ensures.1),
-      count_turn (width_for a.t.now) a.t.now a.asked.own a.asked.spn m n c.in-Found.key (key_found c.loop-i.next) _ (omega arith) (ap key_found c.in-Found.is) c.next_key-next.ensures
-          c.position_told-position.result c.position_told-position.ensures c.loop-i.count c.one_for-count.result c.one_for-count.ensures.0
-          ∙ c.loop-i.invariant.3,
-      position-laid (width_for a.t.now) a.t.now a.asked.own a.asked.spn m n c.in-Found.key (key_found c.loop-i.next) _ (omega arith) (ap key_found c.in-Found.is) c.next_key-next.ensures
-          c.loop-i.positions _ c.loop-i.i c.position_told-position.result (omega (arith, c.loop-i.invariant.1)) c.position_told-position.ensures c.loop-i.invariant.4,
-      zeros_left (width_for a.t.now) a.t.now a.asked.own a.asked.spn m n c.in-Found.key (key_found c.loop-i.next) _ (omega arith) (ap key_found c.in-Found.is) c.next_key-next.ensures
-          c.loop-i.positions c.loop-i.positions c.loop-i.i c.position_told-position.result (omega (arith, c.loop-i.invariant.1)) c.position_told-position.ensures c.loop-i.invariant.5,
+    let t = a.t.now in
+    let l = c.loop-key in
+    let m = c.message_at.result in
+    let later = keys_left c.next.new.self in
+    let told = c.in-Some-position_told in
+    let e = c.in-Some.ensures.steps in
+    let one = ap length e in
+    let more = answers (width_for t) t a.asked.own a.asked.spn c.in-Some.key _ later e told.ensures.0 told.position told.ensures.1 m c.message_at.ensures in (
+      omega (arith, one, l.invariant.0),
+      simp length-set l.invariant.1,
+      rw (add-one, take-suc-set l.messages l.count m (omega (arith, one, l.invariant.0, l.invariant.1)))
+          (append_assoc (take l.count l.messages) (m ∷ []) (all (width_for t) t a.asked.own a.asked.spn later) ∙ ap (λ (ms : List Message). take l.count l.messages ++ ms) (sym more) ∙ l.invariant.2),
     )
 
 pub returns : goal.returns
 returns c =
     let a = c.args in
-    let z = count-done (width_for a.t.now) a.t.now a.asked.own a.asked.spn (16 - c.loop-i.i) (key_found c.loop-i.next) (omega arith) in (
-      positions-done (width_for a.t.now) a.t.now a.asked.own a.asked.spn (16 - c.loop-i.i) (key_found c.loop-i.next) c.loop-i.positions _ c.loop-i.i c.loop-i.invariant.4 (omega arith) (omega (arith, c.loop-i.invariant.1)),
-      omega (arith, z, c.loop-i.invariant.3),
+    let t = a.t.now in
+    let l = c.loop-key in
+    let none = ap (all (width_for t) t a.asked.own a.asked.spn) c.in-None.ensures.steps.0 in
+    let whole = sym (append-nil (take l.count l.messages)) ∙ ap (λ (ms : List Message). take l.count l.messages ++ ms) (sym none) ∙ l.invariant.2 in
+    let few = l.invariant.0 in (
+      whole,
+      sym (length-take-le l.count l.messages (omega (arith, few, l.invariant.1))) ∙ ap length whole,
+      omega (arith, few),
     )

@@ -3,8 +3,8 @@ use mathlib.Core.Path.{◌∙◌}
 use Rattle.lookup.proofs.KeyRow.{its_edition, no_edition}
 use Rattle.lookup.proofs.edition_of.Goals as goal
 
-pub returns-then-row-le-FORM : goal.returns-then-row-le-FORM
-returns-then-row-le-FORM c = no_edition _ _ _ c.row_of-row.ensures.0 c.if-row-le-FORM.true
+pub returns-in-Some : goal.returns-in-Some
+returns-in-Some c = c.edition_of.ensures ∙ its_edition _ _ _ c.in-Some.ensures.0
 
-pub returns : goal.returns
-returns c = c.edition_of.ensures ∙ its_edition _ _ _ c.row_of-row.ensures.0
+pub returns-in-None : goal.returns-in-None
+returns-in-None c = no_edition _ _ c.in-None.ensures.0

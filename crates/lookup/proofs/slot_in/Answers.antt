@@ -2,7 +2,7 @@
 use mathlib.Core.Path.{◌≡◌, sym, ◌∙◌}
 use native.Mathlib.Omega.{arith}
 use borrow.Author.Rules.{rules}
-use borrow.Author.Count.{below_none, below_more}
+use borrow.Author.Count.{below_more}
 use Rattle.words.proofs.First.{first-at, first_none}
 use Rattle.history.specs.History.{most_keys}
 use Rattle.keyrow.specs.Row.{row_is}
@@ -10,20 +10,17 @@ use Rattle.lookup.specs.Layout.{row_of, slot_of}
 use Rattle.lookup.proofs.Words.{row_is_lem}
 use Rattle.lookup.proofs.slot_in.Goals as goal
 
-pub loop-i-init : goal.loop-i-init
-loop-i-init c = (search rules, below_none _)
-
 pub returns-then-words_are : goal.returns-then-words_are
 unfolding slot_of
 returns-then-words_are c =
     let seen : row_is (row_of c.args.t.now c.loop-i.i) c.args.key ≡ c.words_are.result = row_is_lem c.args.t.now (search rules) c.loop-i.i c.args.key (omega arith) ∙ sym c.words_are.ensures in
-    sym (first-at _ most_keys c.loop-i.i (search rules) c.loop-i.invariant.1 (seen ∙ c.if-words_are.true))
+    (sym (first-at _ most_keys c.loop-i.i (search rules) c.loop-i.invariant (seen ∙ c.if-words_are.true)), search rules)
 
 pub loop-i-preserved : goal.loop-i-preserved
 loop-i-preserved c =
     let seen : row_is (row_of c.args.t.now c.loop-i.i) c.args.key ≡ c.words_are.result = row_is_lem c.args.t.now (search rules) c.loop-i.i c.args.key (omega arith) ∙ sym c.words_are.ensures in
-    (search rules, below_more _ _ c.loop-i.invariant.1 (seen ∙ c.if-words_are.false))
+    below_more _ _ c.loop-i.invariant (seen ∙ c.if-words_are.false)
 
 pub returns : goal.returns
 unfolding slot_of
-returns c = sym (first_none _ most_keys (λ k h. c.loop-i.invariant.1 k (omega arith)))
+returns c = sym (first_none _ most_keys (λ k h. c.loop-i.invariant k (omega arith)))

@@ -17,24 +17,26 @@ use Rattle.open.proofs.lay_places.Goals as goal
 
 pub loop-i-init : goal.loop-i-init
 unfolding unfolded tabulate
-loop-i-init c = (search rules, search rules, search rules, refl, refl, sym (any-zero _))
+loop-i-init c = record { spns = refl; starts = refl; empty = sym (any-zero _) }
 
 pub loop-i-preserved : goal.loop-i-preserved
 loop-i-preserved c =
-    let a = c.args in (
-      search rules,
-      search rules,
-      search rules,
-      turn spn_in a.row.now a.spns.now _ c.loop-i.i _ (search rules) (omega arith) c.loop-i.invariant.3 (c.spn_of.ensures ∙ spn_there_lem (width_row a.row.now) (place_of (get_or a.row.now (3 + c.loop-i.i) 0))),
-      turn start_in a.row.now a.starts.now _ c.loop-i.i _ (search rules) (omega arith) c.loop-i.invariant.4 (c.start_of.ensures ∙ start_there_lem (width_row a.row.now) (place_of (get_or a.row.now (3 + c.loop-i.i) 0))),
-      rw (c.loop-i.invariant.5, add-one) (sym (any-more (empty_at a.row.now) c.loop-i.i)),
-    )
+    let a = c.args in
+    let l = c.loop-i.invariant in
+    let there = width_row a.row.now in
+    let cell = place_of (get_or a.row.now (3 + c.loop-i.i) 0) in
+    record {
+      spns = turn spn_in a.row.now a.spns.now _ c.loop-i.i _ (search rules) (omega arith) l.spns (c.spn_of.ensures ∙ spn_there_lem there cell);
+      starts = turn start_in a.row.now a.starts.now _ c.loop-i.i _ (search rules) (omega arith) l.starts (c.start_of.ensures ∙ start_there_lem there cell);
+      empty = rw (l.empty, add-one) (sym (any-more (empty_at a.row.now) c.loop-i.i));
+    }
 
 pub returns : goal.returns
 returns c =
     let a = c.args in
+    let l = c.loop-i.invariant in
     let e : c.loop-i.i ≡ a.n = omega arith in (
-      c.loop-i.invariant.3 ∙ ap (λ (k : ℕ). unfolded spn_in a.row.now k a.spns.now) e,
-      c.loop-i.invariant.4 ∙ ap (λ (k : ℕ). unfolded start_in a.row.now k a.starts.now) e,
-      c.loop-i.invariant.5 ∙ ap (any (empty_at a.row.now)) e,
+      l.spns ∙ ap (λ (k : ℕ). unfolded spn_in a.row.now k a.spns.now) e,
+      l.starts ∙ ap (λ (k : ℕ). unfolded start_in a.row.now k a.starts.now) e,
+      l.empty ∙ ap (any (empty_at a.row.now)) e,
     )

@@ -1,15 +1,11 @@
 -- `unfold_row`: SPNs and starts by `lay_places`; the widths of these SPNs by the row's edition, marked where nothing stands. Assumes nothing.
-use mathlib.Core.Path.{sym, ap, ◌∙◌}
+use mathlib.Core.Path.{ap, ◌∙◌}
 use borrow.Author.Rules.{rules}
 use lib.ListN.{take}
-use lib.Seq.{length-take-le}
 use Rattle.judge.specs.Judge.{spn_in}
 use Rattle.open.specs.Unfolded.{marked_to}
 use Rattle.open.proofs.Unfolded.{unfolded-first, widths-unfolded}
 use Rattle.open.proofs.unfold_row.Goals as goal
-
-pub slice_bounds-widths_of-end-2 : goal.slice_bounds-widths_of-end-2
-slice_bounds-widths_of-end-2 c = sym (length-take-le _ _ (search rules))
 
 pub returns : goal.returns
 returns c =
@@ -17,6 +13,6 @@ returns c =
       c.lay_places-empty.ensures.0,
       c.lay_places-empty.ensures.1,
       c.mark_where.ensures ∙ ap (marked_to a.row.now a.n) c.widths_of.ensures
-          ∙ widths-unfolded a.row.now a.widths.now a.n c.requires.1 c.requires.4 _ c.edition_of-edition.ensures _
+          ∙ widths-unfolded a.row.now a.widths.now a.n c.requires (search rules) _ c.edition_of-edition.ensures _
           (ap (take a.n) c.lay_places-empty.ensures.0 ∙ unfolded-first spn_in a.row.now a.n a.spns.now),
     )

@@ -1,11 +1,9 @@
--- `pairs::lets_pass` meets its contract: by the mode and the list of the row that is lent.
--- Assumes nothing.
-use Rattle.pairs.proofs.Answers.{lent-passes}
-use borrow.Author.Tests.{le-ltb}
+-- `pairs::lets_pass` meets its contract: by the mode and the list of the row. Assumes nothing.
+use Rattle.pairs.proofs.Answers.{passes-by}
 use Rattle.pairs.proofs.lets_pass.Goals as goal
 
-pub returns-then-pair-w : goal.returns-then-pair-w
-returns-then-pair-w c = lent-passes _ _ _ c.if-pair-w.true c.mode_of.ensures c.count_of-n.ensures.0 c.entry_of.ensures c.passing.ensures
-
-pub returns : goal.returns
-returns c = rw (le-ltb _ _ c.if-pair-w.false)
+pub returns-in-Some : goal.returns-in-Some
+returns-in-Some c =
+    let a = c.as_chunks.ensures in
+    let row = c.in-Some.ensures.lookup in
+    passes-by _ _ _ _ a.front a.front_len row.3.0 row.1 c.mode_of.ensures c.lists.ensures c.passing.ensures

@@ -1,5 +1,4 @@
--- `pairs::renew_row` meets its contract: 19, or the mode and an empty list.
--- Assumes nothing.
+-- `pairs::renew_row` meets its contract: 19, or the mode and an empty list. Assumes nothing.
 use Rattle.pairs.proofs.Answers.{renew_19, renew_done}
 use Rattle.pairs.proofs.renew_row.Goals as goal
 

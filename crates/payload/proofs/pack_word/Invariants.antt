@@ -1,12 +1,7 @@
 use mathlib.Core.Path.{◌≡◌}
-use Prim.Native.Nat.{◌-◌, ◌≤◌}
-use lib.ListN.{length}
 use Rattle.words.proofs.Lowest.{None}
 use Rattle.payload.proofs.OneWord.{stops, word_to}
 use Rattle.payload.proofs.pack_word.Given as goal
 
 abbrev pub invariant-loop-i : goal.invariant-loop-i
-invariant-loop-i l = (l.i ≤ length l.starts) × (l.word ≡ word_to l.starts l.widths l.numbers l.i) × None (stops l.starts l.widths l.numbers) l.i
-
-abbrev pub decreases-loop-i : goal.decreases-loop-i
-decreases-loop-i l = length l.starts - l.i
+invariant-loop-i l = (l.word ≡ word_to l.starts l.widths l.numbers l.i) × None (stops l.starts l.widths l.numbers) l.i

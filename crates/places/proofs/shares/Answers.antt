@@ -13,10 +13,6 @@ returns-then-end_bit-s2 c =
     let a = c.args in
     sym (shares_after a.s1 a.w1 a.s2 a.w2 (omega (arith, c.end_bit.ensures, c.if-end_bit-s2.true)))
 
--- it stands in the bits that the first skips
-pub returns-then-lies_skipped : goal.returns-then-lies_skipped
-returns-then-lies_skipped c = sym (c.lies_skipped.ensures c.if-lies_skipped.true)
-
 pub run_shares-requires-2 : goal.run_shares-requires-2
 run_shares-requires-2 c =
     let begins : let a = c.args in c.left_bit.result ≡ left a.s1 a.w1 = let a = c.args in c.left_bit.ensures ∙ left-place a.s1 a.w1 in

@@ -2,8 +2,10 @@
 use Rattle.queue.proofs.Rows.{lent_leaves, none_leaves}
 use Rattle.queue.proofs.leave.Goals as goal
 
-pub returns-then-port-q : goal.returns-then-port-q
-returns-then-port-q c = lent_leaves _ _ c.if-port-q.true c.leave_row.ensures
+pub returns-in-Some : goal.returns-in-Some
+returns-in-Some c =
+    let lent = c.split_at_mut-rest.ensures in
+    lent_leaves _ _ c.if-port-q.true lent.front lent.back c.in-Some.ensures.cases.same _ c.leave_row.ensures
 
-pub returns : goal.returns
-returns c = none_leaves _ _ c.if-port-q.false
+pub returns-else-port-q : goal.returns-else-port-q
+returns-else-port-q c = none_leaves _ _ c.if-port-q.false

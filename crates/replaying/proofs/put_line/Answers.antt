@@ -1,6 +1,6 @@
 -- `replaying::put_line` meets its contract: its ports, its counters, and what waits. Assumes nothing.
-use Rattle.text.proofs.Pieces.{four_follow}
+use Rattle.text.proofs.Laid.{next}
 use Rattle.replaying.proofs.put_line.Goals as goal
 
 pub returns : goal.returns
-returns c = four_follow _ _ _ _ _ _ _ _ _ c.put_number-at.ensures c.put_number-at-2.ensures c.put_six-at.ensures c.put_number.ensures
+returns c = next c.number.ensures (next c.number-2.ensures (next c.put_six.ensures c.number-3.ensures))

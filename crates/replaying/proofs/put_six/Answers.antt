@@ -1,10 +1,6 @@
 -- `replaying::put_six` meets its contract: six numbers, one after the other. Assumes nothing.
-use Rattle.text.proofs.Pieces.{follow}
+use Rattle.text.proofs.Laid.{next}
 use Rattle.replaying.proofs.put_six.Goals as goal
 
 pub returns : goal.returns
-returns c =
-    follow _ _ _ _ _ c.put_number-at.ensures
-    (follow _ _ _ _ _ c.put_number-at-2.ensures
-    (follow _ _ _ _ _ c.put_number-at-3.ensures
-    (follow _ _ _ _ _ c.put_number-at-4.ensures (follow _ _ _ _ _ c.put_number-at-5.ensures c.put_number.ensures))))
+returns c = next c.number.ensures (next c.number-2.ensures (next c.number-3.ensures (next c.number-4.ensures (next c.number-5.ensures c.number-6.ensures))))

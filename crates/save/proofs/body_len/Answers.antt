@@ -5,7 +5,7 @@ use Rattle.image.proofs.Lengths.{body_length}
 use borrow.Author.Rules.{rules}
 use Rattle.save.proofs.body_len.Goals as goal
 
-pub returns-then-saved : goal.returns-then-saved
-returns-then-saved c =
+pub returns : goal.returns
+returns c =
     let a = c.args in
-    (rw c.if-saved.true (ap (λ (n : ℕ). 5 * n) c.count-n.ensures ∙ body_length (map_in a.t.now a.key)), search rules)
+    (ap (λ (n : ℕ). 5 * n) c.count.ensures ∙ body_length (map_in a.t.now a.key), search rules)

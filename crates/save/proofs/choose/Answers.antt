@@ -1,62 +1,55 @@
--- `save::choose` meets its contract. The loop's invariant: the marks laid, and those of the keys still to come, are all; behind them stand zeros; the count, and the bodies'
--- length. Assumes nothing.
-use Prim.Native.Nat.{ℕ, ◌+◌, ◌-◌}
+-- `save::choose`: the keys that are chosen and those that are still to be chosen are all that are saved, and their bodies' length is counted. Assumes nothing.
 use mathlib.Core.Path.{◌≡◌, refl, sym, ap, ◌∙◌}
-use mathlib.Core.Bool.{Bool, cond}
-use mathlib.Core.Option.{Option}
-use mathlib.Core.List.{List, ◌++◌, append-nil}
+use mathlib.Core.List.{List, [], ◌∷◌, ◌++◌, append_assoc, append-nil}
+use native.Mathlib.Numerals.{add-one}
 use native.Mathlib.Omega.{arith}
-use lib.ListN.{length, take, take-append-drop, length-set}
-use lib.Seq.{take_all}
+use lib.ListN.{length, take, length-set}
+use lib.Seq.{length-take-le, take-suc-set}
 use Rattle.message.specs.declared.Key.{Key}
 use Rattle.lookup.specs.View.{map_in}
-use Rattle.lookup.specs.Next.{key_found}
+use Rattle.lookup.specs.Next.{first_key, keys_left, held_keys}
 use Rattle.image.specs.Write.{bodies_of}
-use Rattle.save.specs.Pieces.{marks as marks_from, marks_of}
-use Rattle.save.proofs.Walked.{rest, count_turn, length_turn, rest_none, rest_done, count_end, length_end, mark-laid, zeros_left, marks_none, marks_end}
-use borrow.Author.Rules.{rules}
+use Rattle.save.proofs.Walked.{walk_most, rest, taken, bodies_more, no_bodies}
 use Rattle.save.proofs.choose.Goals as goal
 
-pub loop-i-init : goal.loop-i-init
-loop-i-init c =
+pub loop-key-init : goal.loop-key-init
+loop-key-init c =
     let t = c.args.t.now in
-    let e = ap (λ (k : Option Key). length (rest t 16 k)) c.first_key-next.ensures in
-    let d = ap (λ (k : Option Key). length (bodies_of (map_in t) (rest t 16 k))) c.first_key-next.ensures in
-    (omega arith, refl, omega arith, omega (arith, e), ap (marks_from 16 t) c.first_key-next.ensures, refl, omega arith, omega (arith, d))
+    let all : keys_left c.into_iter-key-iterator.result ≡ held_keys t = ap keys_left c.into_iter-key-iterator.ensures.into_iter_gives ∙ c.keys-key-items.ensures in
+    let few = walk_most t 16 (first_key t) in
+    let len = ap length all in
+    let bodies = ap (λ (ks : List Key). length (bodies_of (map_in t) (rest t ks))) all in
+    (omega (arith, few, len), refl, ap (rest t) all, omega arith, omega (arith, bodies))
 
-pub returns-in-NoMore : goal.returns-in-NoMore
-returns-in-NoMore c =
+pub loop-key-preserved-then-is_saved : goal.loop-key-preserved-then-is_saved
+loop-key-preserved-then-is_saved c =
     let t = c.args.t.now in
-    let n = ap key_found c.in-NoMore.is in (
-      sym (take-append-drop c.loop-i.i c.loop-i.marks) ∙ ap (λ (x : List ℕ). take c.loop-i.i c.loop-i.marks ++ x) (c.loop-i.invariant.5 ∙ sym (marks_none t (16 - c.loop-i.i) (key_found c.loop-i.next) n)) ∙ c.loop-i.invariant.4,
-      count_end t c.loop-i.count (16 - c.loop-i.i) (key_found c.loop-i.next) (rest_none t (16 - c.loop-i.i) (key_found c.loop-i.next) n) ∙ c.loop-i.invariant.3,
-      length_end t c.loop-i.bodies (16 - c.loop-i.i) (key_found c.loop-i.next) (rest_none t (16 - c.loop-i.i) (key_found c.loop-i.next) n) ∙ c.loop-i.invariant.7,
-      omega (arith, c.loop-i.invariant.0, c.loop-i.invariant.6),
-    )
-
-pub loop-i-preserved : goal.loop-i-preserved
-loop-i-preserved c =
-    let t = c.args.t.now in
-    let k = c.in-Found.key in
-    let m = 16 - (c.loop-i.i + 1) in
-    let n = 16 - c.loop-i.i in
-    let w = c.bit-mark.ensures.0 ∙ ap (λ (x : Bool). cond {A = ℕ} x 1 0) c.is_saved-saved.ensures in (
-      omega arith,
-      simp length-set c.loop-i.invariant.1,
-      search rules,
-      count_turn t m n k (key_found c.loop-i.next) _ (omega arith) (ap key_found c.in-Found.is) c.next_key-next.ensures c.loop-i.count _ _ c.is_saved-saved.ensures c.bit-mark.ensures.0 ∙ c.loop-i.invariant.3,
-      mark-laid t m n k (key_found c.loop-i.next) _ (omega arith) (ap key_found c.in-Found.is) c.next_key-next.ensures c.loop-i.marks (marks_of t) c.loop-i.i c.bit-mark.result (omega arith) w c.loop-i.invariant.4,
-      zeros_left t m n k (key_found c.loop-i.next) _ (omega arith) (ap key_found c.in-Found.is) c.next_key-next.ensures c.loop-i.marks (marks_of t) c.loop-i.i c.bit-mark.result (omega arith) w c.loop-i.invariant.5,
-      omega (arith, c.loop-i.invariant.6, c.body_len-bodies.ensures.1),
-      length_turn t m n k (key_found c.loop-i.next) _ (omega arith) (ap key_found c.in-Found.is) c.next_key-next.ensures c.loop-i.bodies _ _ c.is_saved-saved.ensures c.body_len-bodies.ensures.0 ∙ c.loop-i.invariant.7,
+    let l = c.loop-key in
+    let later = keys_left c.next.new.self in
+    let k = c.in-Some.key in
+    let e = c.in-Some.ensures.steps in
+    let one = ap length e in
+    let more = taken t k _ later e (sym c.is_saved.ensures ∙ c.if-is_saved.true) in
+    let bodies = ap (λ (ks : List Key). length (bodies_of (map_in t) ks)) more ∙ bodies_more t k (rest t later) in (
+      omega (arith, one, l.invariant.0),
+      simp length-set l.invariant.1,
+      rw (add-one, take-suc-set l.keys l.count k (omega (arith, one, l.invariant.0, l.invariant.1)))
+          (append_assoc (take l.count l.keys) (k ∷ []) (rest t later) ∙ ap (λ (ks : List Key). take l.count l.keys ++ ks) (sym more) ∙ l.invariant.2),
+      omega (arith, l.invariant.3, c.body_len-bodies.ensures.1),
+      omega (arith, bodies, l.invariant.4, c.body_len-bodies.ensures.0),
     )
 
 pub returns : goal.returns
 returns c =
     let t = c.args.t.now in
-    let z : 16 - c.loop-i.i ≡ 0 = omega arith in (
-      sym (take_all c.loop-i.i c.loop-i.marks (omega arith)) ∙ sym (append-nil (take c.loop-i.i c.loop-i.marks)) ∙ ap (λ (x : List ℕ). take c.loop-i.i c.loop-i.marks ++ x) (sym (marks_end t (16 - c.loop-i.i) (key_found c.loop-i.next) z)) ∙ c.loop-i.invariant.4,
-      count_end t c.loop-i.count (16 - c.loop-i.i) (key_found c.loop-i.next) (rest_done t (16 - c.loop-i.i) (key_found c.loop-i.next) z) ∙ c.loop-i.invariant.3,
-      length_end t c.loop-i.bodies (16 - c.loop-i.i) (key_found c.loop-i.next) (rest_done t (16 - c.loop-i.i) (key_found c.loop-i.next) z) ∙ c.loop-i.invariant.7,
-      omega (arith, c.loop-i.invariant.0, c.loop-i.invariant.6),
+    let l = c.loop-key in
+    let none = ap (rest t) c.in-None.ensures.steps.0 in
+    let all = sym (append-nil (take l.count l.keys)) ∙ ap (λ (ks : List Key). take l.count l.keys ++ ks) (sym none) ∙ l.invariant.2 in
+    let bodies = ap (λ (ks : List Key). length (bodies_of (map_in t) ks)) none ∙ no_bodies t in
+    let few = l.invariant.0 in (
+      all,
+      sym (length-take-le l.count l.keys (omega (arith, few, l.invariant.1))) ∙ ap length all,
+      omega (arith, bodies, l.invariant.4),
+      omega (arith, few),
+      omega (arith, few, l.invariant.3),
     )

@@ -1,11 +1,16 @@
 -- `save::lay` meets its contract: where there is room, what the pieces made of the buffer is the image laid over its start. Assumes nothing.
-use mathlib.Core.Path.{◌≡◌}
+use mathlib.Core.Path.{◌≡◌, ap}
 use Prim.Native.Nat.{◌+◌}
 use native.Mathlib.Omega.{arith}
 use lib.ListN.{length}
 use Rattle.image.specs.Write.{image_in}
 use Rattle.save.proofs.Joined.{size_is, laid_in, laid-not}
 use Rattle.save.proofs.lay.Goals as goal
+
+pub put_image-requires : goal.put_image-requires
+put_image-requires c =
+    let e = c.choose-chosen.ensures in
+    (e.0, omega (arith, ap length e.0, e.1, e.3))
 
 pub returns-then-out-n : goal.returns-then-out-n
 returns-then-out-n c =

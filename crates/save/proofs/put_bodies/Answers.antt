@@ -1,52 +1,32 @@
-use Prim.Native.Nat.{◌+◌, ◌-◌}
-use mathlib.Core.Path.{refl, sym, ap, ◌∙◌}
-use mathlib.Core.Option.{Option}
+-- `save::put_bodies`: the bodies of the keys from the index on, laid after what there is, make the page that all of them make. Assumes nothing.
+use mathlib.Core.Path.{refl, ap, ◌∙◌}
+use mathlib.Core.List.{List}
+use native.Mathlib.Numerals.{add-one}
 use native.Mathlib.Omega.{arith}
-use Rattle.text.specs.Text.{page, put_all}
+use lib.ListN.{length, get_or}
+use Rattle.text.specs.Page.{held}
 use Rattle.message.specs.declared.Key.{Key}
-use Rattle.lookup.specs.View.{map_in}
-use Rattle.lookup.specs.Next.{key_found}
-use Rattle.save.specs.Pieces.{marks, bodies_pieces}
-use Rattle.lookup.specs.Next.{next_key}
-use Rattle.save.proofs.Walked.{rest, bodies_turn, rest_none, rest_done, bodies_end, mark_now, mark-next}
-use borrow.Author.Rules.{rules}
+use Rattle.lookup.specs.Next.{held_keys}
+use Rattle.image.specs.Write.{is_saved}
+use Rattle.save.proofs.Walked.{each_saved, bodies_turn, bodies_end}
 use Rattle.save.proofs.put_bodies.Goals as goal
 
-pub loop-i-init : goal.loop-i-init
-loop-i-init c =
-    let a = c.args in (
-      omega arith,
-      refl,
-      ap (λ (k : Option Key). put_all (page a.at a.out.now) (bodies_pieces (map_in a.t.now) (rest a.t.now 16 k))) c.first_key-next.ensures,
-      c.requires ∙ sym (ap (marks 16 a.t.now) c.first_key-next.ensures),
-    )
+pub loop-key-init : goal.loop-key-init
+loop-key-init c = (refl, refl)
 
-pub put_body-place-requires : goal.put_body-place-requires
-put_body-place-requires c =
-    let a = c.args in
-    mark_now a.t.now (16 - (c.loop-i.i + 1)) (16 - c.loop-i.i) c.in-Found.key (key_found c.loop-i.next) (next_key a.t.now c.in-Found.key) (omega arith) (ap key_found c.in-Found.is) refl a.marks.now c.loop-i.i c.loop-i.invariant.3
-
-pub returns-in-NoMore : goal.returns-in-NoMore
-returns-in-NoMore c =
+pub put_body-requires : goal.put_body-requires
+put_body-requires c =
     let t = c.args.t.now in
-    bodies_end t (16 - c.loop-i.i) (key_found c.loop-i.next) (page c.loop-i.place c.loop-i.out) (rest_none t (16 - c.loop-i.i) (key_found c.loop-i.next) (ap key_found c.in-NoMore.is)) ∙ c.loop-i.invariant.2
+    let i = c.loop-key.key-index in
+    ap (λ (ks : List Key). is_saved t (get_or ks i _)) c.requires ∙ each_saved t (held_keys t) i _ (omega (arith, ap length c.requires, c.loop-key-test.true))
 
-pub loop-i-preserved : goal.loop-i-preserved
-loop-i-preserved c =
-    let a = c.args in
-    let t = a.t.now in
-    let m = 16 - (c.loop-i.i + 1) in
-    let n = 16 - c.loop-i.i in
-    let k = c.in-Found.key in (
-      omega arith,
-      search rules,
-      bodies_turn t m n k (key_found c.loop-i.next) _ (omega arith) (ap key_found c.in-Found.is) c.next_key-next.ensures _ (page c.loop-i.place c.loop-i.out) _
-          (mark_now t m n k (key_found c.loop-i.next) _ (omega arith) (ap key_found c.in-Found.is) c.next_key-next.ensures a.marks.now c.loop-i.i c.loop-i.invariant.3) c.put_body-place.ensures
-          ∙ c.loop-i.invariant.2,
-      mark-next t m n k (key_found c.loop-i.next) _ (omega arith) (ap key_found c.in-Found.is) c.next_key-next.ensures a.marks.now c.loop-i.i c.loop-i.invariant.3,
-    )
+pub loop-key-preserved : goal.loop-key-preserved
+loop-key-preserved c =
+    let l = c.loop-key in
+    let e = c.put_body.ensures in
+    (e.same ∙ l.invariant.0, rw add-one (bodies_turn c.args.t.now c.args.keys.now l.key-index _ c.loop-key-test.true (held l.page) _ e.holds ∙ l.invariant.1))
 
 pub returns : goal.returns
 returns c =
-    let t = c.args.t.now in
-    bodies_end t (16 - c.loop-i.i) (key_found c.loop-i.next) (page c.loop-i.place c.loop-i.out) (rest_done t (16 - c.loop-i.i) (key_found c.loop-i.next) (omega arith)) ∙ c.loop-i.invariant.2
+    let l = c.loop-key in
+    record { same = l.invariant.0; holds = bodies_end c.args.t.now c.args.keys.now l.key-index (omega (arith, c.loop-key-test.false)) (held l.page) ∙ l.invariant.1 }

@@ -1,8 +1,12 @@
 -- `save::put_image` meets its contract: the first two bytes, the rows and the bodies are the image's pieces. Assumes nothing.
-use Rattle.save.proofs.Joined.{image_laid}
+use mathlib.Core.Path.{refl, ◌∙◌}
+use borrow.Author.Rules.{rules}
+use Rattle.text.proofs.Laid.{next, let_go}
+use Rattle.save.proofs.Joined.{image_pieces_are}
 use Rattle.save.proofs.put_image.Goals as goal
 
 pub returns : goal.returns
 returns c =
     let a = c.args in
-    image_laid a.form a.t.now a.out.now a.count _ _ _ _ c.requires.1 c.behind.ensures.0 c.put_bytes-at.ensures c.put_rows-at.ensures c.put_bodies.ensures
+    let_go c.new-page.ensures.holds (next c.bytes.ensures (next c.put_rows.ensures c.put_bodies.ensures)) c.at.ensures (search rules)
+    ∙ image_pieces_are a.form a.t.now a.out.now a.keys.now _ _ c.requires.0 refl c.behind.ensures.0

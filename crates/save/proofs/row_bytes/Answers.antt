@@ -1,7 +1,8 @@
 -- `row_bytes`: the eight bytes. Assumes nothing.
+use borrow.Author.Rules.{rules}
 use Rattle.image.specs.Write.{full_row}
 use Rattle.save.proofs.row_bytes.Goals as goal
 
 pub returns : goal.returns
 unfolding full_row
-returns c = rw c.edition_byte.ensures
+returns c = search rules

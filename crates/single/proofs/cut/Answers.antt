@@ -11,11 +11,6 @@ run_in-requires c = let p = there c.args.start c.args.width c.requires in (omega
 pub returns-then-width-le8 : goal.returns-then-width-le8
 returns-then-width-le8 c = let a = c.args in c.run_in.ensures ∙ one-run-is a.word a.start a.width (even_skips a.width (narrow a.width c.if-width-le8.true))
 
-pub cut_odd-requires : goal.cut_odd-requires
-cut_odd-requires c =
-    let p = there c.args.start c.args.width c.requires in
-    (sym c.is_odd.ensures ∙ c.if-is_odd.true, p.1, p.2)
-
 pub run_in-requires-2 : goal.run_in-requires-2
 run_in-requires-2 c = let p = there c.args.start c.args.width c.requires in (omega (arith, p, end_runs c.args.start c.args.width), p.1)
 

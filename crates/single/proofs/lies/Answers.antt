@@ -10,6 +10,3 @@ pub returns-then-width-le8 : goal.returns-then-width-le8
 returns-then-width-le8 c =
     let a = c.args in
     rw (even_end a.start a.width (narrow a.width c.if-width-le8.true), le-leb a.width 32 (omega arith)) (test (leb 1 a.width) (λ y. rw y) (λ n. rw n))
-
-pub returns : goal.returns
-returns c = rw (← c.end_bit.ensures, le-leb 1 c.args.width (omega (arith, c.if-width-le8.false)))

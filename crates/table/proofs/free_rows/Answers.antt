@@ -5,7 +5,7 @@ use Prim.Native.Nat.{ℕ, ◌*◌}
 use native.Mathlib.Numerals.{add-one}
 use native.Mathlib.Omega.{arith}
 use borrow.Author.Rules.{rules}
-use lib.ListN.{length-set, set}
+use lib.ListN.{set}
 use Rattle.history.specs.History.{most_keys}
 use Rattle.keyrow.specs.Row.{row_words}
 use Rattle.table.specs.Forget.{free_row, free_to}
@@ -14,26 +14,18 @@ use Rattle.table.proofs.free_rows.Goals as goal
 
 pub loop-i-init : goal.loop-i-init
 unfolding free_to
-loop-i-init c = (search rules, (refl, refl))
+loop-i-init c = refl
 
 pub loop-i-preserved : goal.loop-i-preserved
 unfolding free_to
 loop-i-preserved c =
-    let i = c.loop-i.i in (
-      search rules,
-      (
-        rw add-one
-            (ap (λ (v : ℕ). set c.loop-i.t (i * row_words) v) c.state_without.ensures
-            ∙ free-word c.loop-i.t (c.loop-i.invariant.1.1 ∙ c.requires) i c.args.key (omega arith)
-            ∙ ap (λ (u : List ℕ). free_row u c.args.key i) c.loop-i.invariant.1.0),
-        simp length-set c.loop-i.invariant.1.1,
-      ),
-    )
-
-pub shape_of-t : goal.shape_of-t
-shape_of-t c = c.loop-i.invariant.1.1
+    let i = c.loop-i.i in
+    rw add-one
+    (ap (λ (v : ℕ). set c.loop-i.t (i * row_words) v) c.state_without.ensures
+    ∙ free-word c.loop-i.t (search rules) i c.args.key (omega arith)
+    ∙ ap (λ (u : List ℕ). free_row u c.args.key i) c.loop-i.invariant)
 
 pub returns : goal.returns
 returns c =
     let e : c.loop-i.i ≡ most_keys = omega arith in
-    c.loop-i.invariant.1.0 ∙ ap (free_to c.args.t.now c.args.key) e
+    c.loop-i.invariant ∙ ap (free_to c.args.t.now c.args.key) e

@@ -7,15 +7,19 @@ use Rattle.table.proofs.learn.Goals as goal
 pub learn_message-requires : goal.learn_message-requires
 learn_message-requires c =
     let a = c.args in
-    storable a.id a.len a.d.now _ (ap heard_of (sym c.in-Taken.is) ∙ c.decode.ensures)
+    storable a.id a.len a.d.now _ (ap heard_of (sym c.in-Ok.is) ∙ c.decode.ensures)
 
-pub returns-in-Refused : goal.returns-in-Refused
-returns-in-Refused c =
+pub returns-in-Ok-learn_message : goal.returns-in-Ok-learn_message
+returns-in-Ok-learn_message c =
     let a = c.args in
-    simp c.plainly.ensures (refused a.t.now a.id a.len a.d.now _ (ap heard_of (sym c.in-Refused.is) ∙ c.decode.ensures))
+    simp c.plainly.ensures (c.in-Ok-learn_message.ensures ∙ taken a.t.now a.id a.len a.d.now _ (ap heard_of (sym c.in-Ok.is) ∙ c.decode.ensures))
 
-pub returns-in-Taken : goal.returns-in-Taken
-returns-in-Taken c =
+pub returns-in-Err-learn_message : goal.returns-in-Err-learn_message
+returns-in-Err-learn_message c =
     let a = c.args in
-    simp c.plainly-in-Taken.ensures
-    (c.learn_message.ensures ∙ taken a.t.now a.id a.len a.d.now _ (ap heard_of (sym c.in-Taken.is) ∙ c.decode.ensures))
+    simp (c.plainly-in-Err-learn_message.ensures, c.from.ensures) (c.in-Err-learn_message.ensures ∙ taken a.t.now a.id a.len a.d.now _ (ap heard_of (sym c.in-Ok.is) ∙ c.decode.ensures))
+
+pub returns-in-Err : goal.returns-in-Err
+returns-in-Err c =
+    let a = c.args in
+    simp (c.plainly-in-Err.ensures, c.from-in-Err.ensures) (refused a.t.now a.id a.len a.d.now _ (ap heard_of (sym c.in-Err.is) ∙ c.decode.ensures))

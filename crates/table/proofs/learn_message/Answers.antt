@@ -1,16 +1,21 @@
--- `learn_message`: the three ways of the definition. Assumes nothing.
-use borrow.Author.Tests.{lt-ltb, le-ltb}
+-- `learn_message`: the ways of the definition. Assumes nothing.
+use borrow.Author.Rules.{rules}
+use borrow.Author.Tests.{lt-ltb}
 use Rattle.table.specs.Learn.{learn_message}
 use Rattle.table.proofs.learn_message.Goals as goal
 
-pub returns-then-i-lt-ROWS : goal.returns-then-i-lt-ROWS
+pub returns-in_err-learn_at : goal.returns-in_err-learn_at
 unfolding learn_message
-returns-then-i-lt-ROWS c = simp (← c.key_number-number.ensures, ← c.form_number-form.ensures, ← c.cell_number-cell.ensures, ← c.slot_in-i.ensures, lt-ltb _ _ c.if-i-lt-ROWS.true, ← c.learn_at.ensures)
+returns-in_err-learn_at c = simp (← c.key_number-number.ensures, ← c.form_number-form.ensures, ← c.cell_number-cell.ensures, ← c.in-Some.ensures.0, lt-ltb _ _ c.in-Some.ensures.1, ← c.in_err-learn_at.ensures) (search rules)
 
-pub returns-then-f-lt-ROWS : goal.returns-then-f-lt-ROWS
+pub returns-in-Some : goal.returns-in-Some
 unfolding learn_message
-returns-then-f-lt-ROWS c = simp (← c.key_number-number.ensures, ← c.form_number-form.ensures, ← c.cell_number-cell.ensures, ← c.slot_in-i.ensures, le-ltb _ _ c.if-i-lt-ROWS.false, ← c.free_slot-f.ensures, lt-ltb _ _ c.if-f-lt-ROWS.true, ← c.new_at.ensures)
+returns-in-Some c = simp (← c.key_number-number.ensures, ← c.form_number-form.ensures, ← c.cell_number-cell.ensures, ← c.in-Some.ensures.0, lt-ltb _ _ c.in-Some.ensures.1, ← c.in_ok-learn_at.ensures)
+
+pub returns-in_default-free_slot : goal.returns-in_default-free_slot
+unfolding learn_message
+returns-in_default-free_slot c = simp (← c.key_number-number.ensures, ← c.in_default.ensures, ← c.in_default-free_slot.ensures)
 
 pub returns : goal.returns
 unfolding learn_message
-returns c = simp (← c.key_number-number.ensures, ← c.slot_in-i.ensures, le-ltb _ _ c.if-i-lt-ROWS.false, ← c.free_slot-f.ensures, le-ltb _ _ c.if-f-lt-ROWS.false)
+returns c = simp (← c.key_number-number.ensures, ← c.form_number-form.ensures, ← c.cell_number-cell.ensures, ← c.in_default.ensures, ← c.in-Some-free_slot.ensures.0, lt-ltb _ _ c.in-Some-free_slot.ensures.1, ← c.new_at.ensures)

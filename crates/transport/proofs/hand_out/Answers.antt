@@ -5,4 +5,4 @@ use Rattle.transport.proofs.hand_out.Goals as goal
 pub returns : goal.returns
 returns c =
     let a = c.args in
-    front_handed a.bytes.now c.requires.0 a.i c.requires.1.0 a.size c.requires.1.1.0 a.out.now c.requires.1.1.1 _ c.copy_in.ensures
+    front_handed a.bytes.now c.told-bytes a.i c.requires.0 a.size c.requires.1 a.out.now c.told-out _ c.lay_over.ensures

@@ -6,4 +6,4 @@ use Rattle.transport.proofs.lay_seven.Goals as goal
 pub returns : goal.returns
 returns c =
     let a = c.args in
-    seven_laid a.bytes.now c.requires.0 a.i c.requires.1.0 _ (omega arith) a.d.now _ c.seven_of-seven.ensures _ c.copy_at.ensures.dst_after
+    seven_laid a.bytes.now c.told-bytes a.i c.requires.0 _ (omega arith) a.d.now _ c.seven_of-seven.ensures _ c.copy_at.ensures.dst_after

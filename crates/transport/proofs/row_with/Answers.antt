@@ -8,16 +8,16 @@ use Rattle.transport.proofs.row_with.Goals as goal
 
 pub loop-i-init : goal.loop-i-init
 unfolding row_with
-loop-i-init c = (search rules, below_none _)
+loop-i-init c = below_none _
 
-pub returns-then-words-i : goal.returns-then-words-i
+pub returns-then-heads-i-clause-number : goal.returns-then-heads-i-clause-number
 unfolding row_with
-returns-then-words-i c = row_hit 4 8 _ (search rules) (lit< tt) _ _ (search rules) c.loop-i.invariant.1 c.if-words-i.true
+returns-then-heads-i-clause-number c = row_hit 4 8 _ (search rules) (lit< tt) _ _ (search rules) c.loop-i.invariant c.if-heads-i.true
 
 pub loop-i-preserved : goal.loop-i-preserved
 unfolding row_with
-loop-i-preserved c = (search rules, row_turn 4 8 _ (search rules) (lit< tt) _ _ (search rules) c.loop-i.invariant.1 c.if-words-i.false)
+loop-i-preserved c = row_turn 4 8 _ (search rules) (lit< tt) _ _ (search rules) c.loop-i.invariant c.if-heads-i.false
 
-pub returns : goal.returns
+pub returns-clause-number : goal.returns-clause-number
 unfolding row_with
-returns c = row_miss 4 8 _ (search rules) (lit< tt) _ _ (search rules) c.loop-i.invariant.1
+returns-clause-number c = row_miss 4 8 _ (search rules) (lit< tt) _ _ (search rules) c.loop-i.invariant

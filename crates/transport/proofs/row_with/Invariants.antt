@@ -1,4 +1,3 @@
-use Prim.Native.Nat.{◌≤◌, ◌-◌}
 use lib.Dec.{eqb}
 use Rattle.words.specs.Rows.{row_at}
 use Rattle.words.proofs.Lowest.{None}
@@ -6,7 +5,4 @@ use Rattle.transport.specs.Rows.{holder_word}
 use Rattle.transport.proofs.row_with.Given as goal
 
 abbrev pub invariant-loop-i : goal.invariant-loop-i
-invariant-loop-i l = (l.i ≤ 8) × None (λ k. eqb (holder_word (row_at 4 l.heads k)) l.holder) l.i
-
-abbrev pub decreases-loop-i : goal.decreases-loop-i
-decreases-loop-i l = 8 - l.i
+invariant-loop-i l = None (λ k. eqb (holder_word (row_at 4 l.heads k)) l.holder) l.i

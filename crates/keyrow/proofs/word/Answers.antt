@@ -1,7 +1,0 @@
--- `word`: past the end the default stands. Assumes nothing.
-use mathlib.Core.Path.{sym}
-use lib.ListN.{get_or-eq_default}
-use Rattle.keyrow.proofs.word.Goals as goal
-
-pub returns-else-i-row : goal.returns-else-i-row
-returns-else-i-row c = sym (get_or-eq_default c.args.row.now 0 c.if-i-row.false)
