@@ -99,7 +99,9 @@ fn note(c: &mut CounterWords, way: Way, fate: Fate)
     counters::note(&mut c[a..e], way.k, fate);
 }
 
-// Offers a frame to the port at the end of a way, and counts what becomes of it: it is filtered, then queued where fewer than 64 wait there, else turned away.
+// Offers a frame to the port at the end of a way, and counts what becomes of it: it is filtered, then queued where fewer than 64 wait there, else turned away. It becomes part of `offer`, where
+// each way is known.
+#[inline(always)]
 fn offer_to(
     c: &mut CounterWords,
     q: &mut QueueWords,

@@ -1,6 +1,6 @@
 -- What the functions cite: each answer by the tests on its way, with the row that it leaves; a row that is lent and comes back. Assumes nothing.
 use mathlib.Core.Path.{◌≡◌, refl, sym, ap, subst, ◌∙◌}
-use mathlib.Core.Bool.{Bool, true, false}
+use mathlib.Core.Bool.{Bool, true, false, ◌||◌}
 use mathlib.Core.List.{List, [], ◌++◌, append-nil}
 use Prim.Native.Nat.{ℕ, zero, suc, ◌+◌, ◌*◌, ◌-◌, ◌/◌, ◌≤◌, ◌<◌, min}
 use borrow.Author.Tests.{lt-ltb, le-ltb, le-leb, lt-leb, eq-eqb, ne_eqb}
@@ -10,7 +10,9 @@ use native.Mathlib.Decide.{dec_lt}
 use Rattle.std.specs.Prelude.{Option, None, Some, is_some}
 use borrow.Author.Count.{below_more}
 use Rattle.words.specs.First.{first, any}
+use Rattle.std.proofs.lemmas.Bool.{true≢false}
 use Rattle.words.proofs.First.{first-at, first_none, first_below, first_holds}
+use Rattle.words.proofs.Lowest.{any_at, any_found, any-each, any-more}
 use lib.ListN.{length, take, drop, get_or, set, length-take, length-drop, drop_of_length-le}
 use lib.Seq.{take_all, drop-drop}
 use native.Mathlib.Nat.{not-suc-le-zero, le_of_suc-le-suc}
@@ -64,6 +66,33 @@ module _ (p : ℕ → Bool) (k : ℕ) where
 pub any-listed : (r : List ℕ) (g : ℕ) {k : ℕ} {b : Bool} → k ≡ count_in r → b ≡ any (λ (j : ℕ). eqb (get_or r (2 + j) 0) g) k → b ≡ listed_in r g
 unfolding any entry_in
 any-listed r g e a = rw e at a
+
+-- an empty list has no PGN
+pub none-listed : (r : List ℕ) (g : ℕ) {n : ℕ} → n ≡ count_in r → n ≡ 0 → false ≡ listed_in r g
+unfolding any entry_in
+none-listed r g e z = any-listed r g e (any_none (λ (j : ℕ). eqb (get_or r (2 + j) 0) g) ∙ ap (any (λ (j : ℕ). eqb (get_or r (2 + j) 0) g)) (sym z))
+
+-- four entries at a time: those passed so far, and whether one of the next four is the PGN
+module _ (r : List ℕ) (g : ℕ) where
+  abbrev entry : ℕ → Bool
+  entry j = eqb (get_or r (2 + j) 0) g
+
+  pub four_more : (i : ℕ) {b : Bool} → b ≡ (eqb (get_or r (2 + 4 * i) 0) g || eqb (get_or r (2 + 4 * i + 1) 0) g || eqb (get_or r (2 + 4 * i + 2) 0) g || eqb (get_or r (2 + 4 * i + 3) 0) g)
+      → any entry (4 * i) ≡ false → any entry (4 * (i + 1)) ≡ b
+  four_more i h none =
+      let e : 4 * (i + 1) ≡ suc (suc (suc (suc (4 * i)))) = omega arith in
+      let x : 2 + suc (4 * i) ≡ 2 + 4 * i + 1 = omega arith in
+      let y : 2 + suc (suc (4 * i)) ≡ 2 + 4 * i + 2 = omega arith in
+      let z : 2 + suc (suc (suc (4 * i))) ≡ 2 + 4 * i + 3 = omega arith in
+      rw (e, any-more entry (suc (suc (suc (4 * i)))), any-more entry (suc (suc (4 * i))), any-more entry (suc (4 * i)), any-more entry (4 * i), none, x, y, z) (sym h)
+
+  -- none of them is the PGN
+  pub none-passed : {m : ℕ} → any entry m ≡ false → (j : ℕ) → j < m → get_or r (2 + j) 0 ≡ g → ⊥
+  none-passed {m} h j l e = absurd (true≢false (sym (eq-eqb (get_or r (2 + j) 0) g e) ∙ any-each entry m h j l))
+
+  -- one of the first m is listed where that many are
+  pub one_listed : {n m : ℕ} → n ≡ count_in r → m ≤ n → any entry m ≡ true → true ≡ listed_in r g
+  one_listed {n} {m} e l y = let (h, t) = any_found entry m y in any-listed r g e (sym (any_at entry n (first entry m) (omega (arith, h, l)) t))
 
 -- what a search for a PGN found says whether it is listed, and where
 module _ (r : List ℕ) (g : ℕ) where

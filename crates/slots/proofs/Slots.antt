@@ -2,13 +2,13 @@
 use Prim.Native.Nat.{ℕ, zero, suc, ◌≤◌, ◌<◌}
 use mathlib.Core.Path.{◌≡◌, refl, sym, ap, ◌∙◌}
 use mathlib.Core.Bool.{Bool, true, false, ◌&&◌}
-use mathlib.Core.List.{List, [], ◌∷◌}
+use mathlib.Core.List.{List, [], ◌∷◌, map}
 use native.Mathlib.Nat.{le_of_suc-le-suc, not-suc-le-zero}
 use native.Mathlib.Omega.{arith}
 use lib.Dec.{T, leb, ltb, leb→le, ltb→lt}
-use lib.ListN.{length, get_or}
+use lib.ListN.{length, get_or, length-map}
 use Rattle.slots.specs.declared.Slot.{Slot}
-use Rattle.slots.specs.Slots.{slot, slot_count, slots, column, slot_at, within, ruled}
+use Rattle.slots.specs.Slots.{slot, slot_count, slots, column, slot_at, within, ruled, pair, pairs}
 
 -- a number for each of the dictionary's 140 rows
 pub column-size : length column ≡ 140
@@ -18,6 +18,10 @@ column-size = refl
 pub slots-size : length slots ≡ slot_count
 unfolding slots
 slots-size = refl
+
+pub pairs-size : length pairs ≡ slot_count
+unfolding pairs
+pairs-size = length-map slots pair ∙ slots-size
 
 column-within : T (within column)
 unfolding within column
@@ -70,6 +74,16 @@ none_at (x ∷ xs) d (suc i) l = none_at xs d i (le_of_suc-le-suc l)
 
 pub no_row : (i : ℕ) → 140 ≤ i → slot_at i ≡ slot 0 0
 no_row i l = rw (none_at column slot_count i (rw column-size l)) (none_at slots (slot 0 0) slot_count (rw slots-size (omega arith)))
+
+-- the pairs have the two numbers of each slot
+at : (ss : List Slot) (i : ℕ) → (get_or (get_or (map pair ss) i []) 0 0 ≡ (get_or ss i (slot 0 0)).resolution) × (get_or (get_or (map pair ss) i []) 1 0 ≡ (get_or ss i (slot 0 0)).below)
+at [] i = (refl, refl)
+at (s ∷ ss) zero = (refl, refl)
+at (s ∷ ss) (suc i) = at ss i
+
+pub pairs-at : (i : ℕ) → (get_or (get_or pairs i []) 0 0 ≡ (get_or slots i (slot 0 0)).resolution) × (get_or (get_or pairs i []) 1 0 ≡ (get_or slots i (slot 0 0)).below)
+unfolding pairs
+pairs-at i = at slots i
 
 -- the column as it is lent
 module _ (ns : List ℕ) (n : ns ≡ column) where

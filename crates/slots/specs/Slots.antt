@@ -2,7 +2,7 @@
 -- is -12,500; docs/UNITS.md has the units). tools/unitscheck compares them with 002's text.
 -- Assumes nothing.
 use Rattle.std.specs.Prelude.{ℕ, Bool, true, ◌&&◌, leb, ltb, get_or}
-use mathlib.Core.List.{List, [], ◌∷◌}
+use mathlib.Core.List.{List, [], ◌∷◌, map}
 use Rattle.slots.specs.declared.Slot.{Slot}
 
 -- a resolution, and how far its offset lies below 0: no offset of 002 is above it
@@ -188,3 +188,10 @@ within (n ∷ ns) = ltb n slot_count && within ns
 unfoldable pub ruled : List Slot → Bool
 ruled [] = true
 ruled (s ∷ ss) = leb 1 s.resolution && leb s.resolution 50000 && leb s.below 125000 && ruled ss
+
+-- a slot as a pair of its two numbers
+abbrev pub pair : Slot → List ℕ
+pair s = s.resolution ∷ s.below ∷ []
+
+unfoldable pub pairs : List (List ℕ)
+pairs = map pair slots

@@ -4,10 +4,13 @@
 ghost use Rattle.std.specs.Prelude.{◌≡◌, ◌++◌};
 ghost use Rattle.splice.specs.Splice.{covered, fits, laid};
 
-// Copies src over the start of dst, as far as both reach.
+// Copies src over the start of dst, as far as both reach. Where src is empty nothing is called: most records are not cut, and of these nothing is carried.
 pub fn copy_in(dst: &mut [u8], src: &[u8])
     ensures { dst.new ≡ covered dst.old src.now }
 {
+    if src.is_empty() {
+        return;
+    }
     let n = dst.len().min(src.len());
     dst[..n].copy_from_slice(&src[..n]);
 }

@@ -23,6 +23,10 @@ put-more (x ∷ xs) ys p = put-more xs ys (put p.bytes p.at x)
 pub follow : (p q r : Page) (xs ys : List (List ℕ)) → q ≡ put_all p xs → r ≡ put_all q ys → r ≡ put_all p (xs ++ ys)
 follow p q r xs ys e f = f ∙ ap (λ (x : Page). put_all x ys) e ∙ sym (put-more xs ys p)
 
+-- four times some pieces
+pub four_follow : (p q r s t : Page) (ws xs ys zs : List (List ℕ)) → q ≡ put_all p ws → r ≡ put_all q xs → s ≡ put_all r ys → t ≡ put_all s zs → t ≡ put_all p (ws ++ (xs ++ (ys ++ zs)))
+four_follow p q r s t ws xs ys zs e f g h = follow p q t ws (xs ++ (ys ++ zs)) e (follow q r t xs (ys ++ zs) f (follow r s t ys zs g h))
+
 -- one piece
 pub one_piece : (l : List ℕ) (at : ℕ) (x : List ℕ) (r : Page) → r ≡ put l at x → r ≡ put_all (page at l) (x ∷ [])
 unfolding put_all

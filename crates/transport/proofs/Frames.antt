@@ -26,6 +26,10 @@ use Rattle.transport.proofs.Tests.{refused_by, passed_by_lem, one_does, none_doe
 abbrev Refused : ℕ → ℕ → ℕ → Fields → Bool → Type 0
 Refused pgn id len f b = b ≡ not (eqb (first_number_of (served_tests pgn id len f) 0) 0)
 
+-- the number of the first that applies, by the fields that were cut out of its identifier
+pub number_by : (pgn id len n : ℕ) (f : Fields) → f ≡ fields_of id → n ≡ first_number_of (served_tests pgn id len f) 0 → n ≡ first_number_of (served_tests pgn id len (fields_of id)) 0
+number_by pgn id len n f split e = e ∙ ap (λ (x : Fields). first_number_of (served_tests pgn id len x) 0) split
+
 -- the same by the fields that were cut out of its identifier
 by_fields : (pgn id len : ℕ) (f : Fields) → f ≡ fields_of id → (b : Bool) → Refused pgn id len f b → Refused pgn id len (fields_of id) b
 by_fields pgn id len f split b its = its ∙ ap (λ (g : Fields). not (eqb (first_number_of (served_tests pgn id len g) 0) 0)) split

@@ -7,7 +7,6 @@ ghost use Rattle.std.specs.Prelude.{◌≡◌, ◌+◌, ◌*◌, ◌-◌, ◌^�
 ghost use Rattle.words.specs.Rows.{row_at, put_at};
 ghost use Rattle.answers.specs.Answers.{in_numbers, plain, outcome};
 ghost use Rattle.answers.specs.Tests.{first_number_of};
-ghost use Rattle.frame.specs.Frame.{fields_of};
 ghost use Rattle.message.specs.Message.{served_tests};
 ghost use Rattle.splice.specs.Splice.{splice, covered};
 ghost use Rattle.session.specs.Session.{most_bytes, mismatched, is_next, is_last};
@@ -17,7 +16,7 @@ ghost use Rattle.transport.specs.Calls.{holder_in, request_tests, number_said, p
 
 use answers::Answer;
 use frame::{Fields, Three};
-use message::number_told;
+use message::{Fault, number_told};
 
 // How many sessions there are at one time.
 pub const SESSIONS: usize = 8;
@@ -85,14 +84,24 @@ fn holder_in(f: Fields) -> u64
     holder_of(f.source, frame::destination(f))
 }
 
-// The number of a frame that a call refuses. Never inlined: its tests, laid into a call, take is_refused's one comparison apart, and a packet takes 103 instructions in
-// place of 94 (bench/count).
-#[cold]
-#[inline(never)]
-fn refused_as(pf: u8, id: u32, len: u8) -> u8
-    ensures { result ≡ first_number_of (served_tests (pf * 2 ^ 8) id len (fields_of id)) 0 }
+// The number of a frame that a call refuses. A call may be given every frame of the wires, and refuses most.
+// Kept: beside message::served_fault, of which the compiler makes jumps here, and which takes is_refused's one comparison apart. Here all tests are asked before the first is looked at, and the
+// number is chosen without a jump (docs/BENCH.md, "Since the look back").
+fn refused_as(pf: u8, id: u32, len: u8, f: Fields) -> u8
+    ensures { result ≡ first_number_of (served_tests (pf * 2 ^ 8) id len f) 0 }
 {
-    number_told(message::served_fault(pf, id, len, frame::split(id)))
+    let no_identifier = frame::GREATEST < id;
+    let other = !message::is_of(pf, f);
+    let no_length = len != 8;
+    number_told(if no_identifier {
+        Some(Fault::Identifier)
+    } else if other {
+        Some(Fault::OtherPgn)
+    } else if no_length {
+        Some(Fault::Length)
+    } else {
+        None
+    })
 }
 
 // The lowest row with this holder.
@@ -211,7 +220,7 @@ pub fn request(heads: &mut Heads, id: u32, len: u8, d: &[u8; 8]) -> Answer
 {
     let f = frame::split(id);
     if message::is_refused(REQUEST_PF, id, len, f) {
-        return answers::plainly(refused_as(REQUEST_PF, id, len));
+        return answers::plainly(refused_as(REQUEST_PF, id, len, f));
     }
     if let Err(refusal) = tested(d) {
         return answers::plainly(number_said(Err(refusal)));
@@ -334,7 +343,7 @@ pub fn packet(
 {
     let f = frame::split(id);
     if message::is_refused(PACKET_PF, id, len, f) {
-        return briefly(refused_as(PACKET_PF, id, len));
+        return briefly(refused_as(PACKET_PF, id, len, f));
     }
     let Some(i) = row_with(heads, holder_in(f)) else {
         return briefly(28);
